@@ -1,0 +1,4 @@
+pub mod Rows
+pub mod Graph
+pub mod JointTable
+pub mod WallGrid
