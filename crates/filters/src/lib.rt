@@ -33,3 +33,33 @@ pub trait Filter {
         self.apply(arrangement, room, strict, rows)
     }
 }
+
+// How many rows are empty.
+pub fn empty_rows(rows: &[u64]) -> usize
+    ensures { λ k. ⌜ k ≡ empty-count (now (rows .entry)) ⌝ }
+{
+    let mut empty: usize = 0;
+    for x in rows {
+        if *x == 0 {
+            empty += 1;
+        }
+    }
+    empty
+}
+
+// Whether there is one row a unit, at most 24 of them, and no row has a bit at or past the count of bays.
+pub fn well_shaped<A: Source, R: Source>(arrangement: &A, room: &R, rows: &[u64]) -> bool
+    ensures { λ k. ⌜ k ≡ shaped (A·Source .graph (now (arrangement .entry))) (R·Source .graph (now (room .entry))) (now (rows .entry)) ⌝ }
+{
+    let units = arrangement.count();
+    let bays = room.count();
+    if rows.len() != units || units > 24 {
+        return false;
+    }
+    for row in rows {
+        if bays < 64 && *row >> bays != 0 {
+            return false;
+        }
+    }
+    true
+}
