@@ -1,0 +1,9 @@
+-- Small rooms worked through. Assumes nothing.
+use mathlib.Core.Path.{refl}
+use lib.Count.{ones}
+use Rattle.graphs.specs.Rows.{bit, row-from}
+use Rattle.consistency.specs.Rooms.{RoomsHold}
+
+pub rooms-hold : RoomsHold
+unfolding bit row-from ones
+rooms-hold = refl
