@@ -1,11 +1,14 @@
 // Arc consistency: leaves the pairs that have a support at every other unit.
 ghost use mathlib.Core.Path.{_≡_};
-ghost use mathlib.Core.Bool.{false};
-ghost use Prim.Native.Nat.{ℕ};
-ghost use Rattle.graphs.specs.Rows.{row-of};
+ghost use mathlib.Core.Bool.{true, false, not, cond, _&&_};
+ghost use Prim.Native.Nat.{ℕ, _+_, _<_, _≤_};
+ghost use lib.ListN.{length, replicate};
+ghost use Rattle.graphs.specs.Rows.{bit, row-of};
 ghost use Rattle.placements.specs.Agreement.{agrees-if};
 ghost use Rattle.consistency.specs.Support.{SupportGreatest, any-of, revised};
 ghost use Rattle.consistency.specs.Rooms.{RoomsHold};
+ghost use Rattle.consistency.specs.Cut.{CutTo};
+ghost use Rattle.filters.specs.Filter.{all-below, pair-count};
 use graphs::Source;
 use placements::agreeing;
 
@@ -52,4 +55,88 @@ pub fn revise<R: Source>(room: &R, out: bool, back: bool, strict: bool, row: u64
         rest &= rest - 1;
     }
     found
+}
+
+// What was done to the rows of some units: which of them changed, how many pairs went, and whether a row was left empty.
+#[derive(Clone, Copy)]
+struct Cut {
+    changed: u64,
+    taken: usize,
+    emptied: bool,
+}
+
+// Leaves in the rows of the units only the bays of `keep`, and stops at a row that has none of them.
+fn cut_rows(rows: &mut [u64], units: u64, keep: u64) -> Cut
+    requires within { ⌜ ((u : ℕ) → bit units u ≡ true → u < length (now rows)) ⌝ }
+    requires few { ⌜ pair-count (now rows) ≤ 1536 ⌝ }
+    ensures { λ k. ⌜ CutTo units keep (now (rows .entry)) (now (rows .exit)) k ⌝ }
+{
+    let mut changed: u64 = 0;
+    let mut taken: usize = 0;
+    let mut rest = units;
+    while rest != 0 {
+        let u = rest.trailing_zeros() as usize;
+        let old = rows[u];
+        let row = old & keep;
+        if row != old {
+            taken += (old.count_ones() - row.count_ones()) as usize;
+            rows[u] = row;
+            changed |= 1 << u;
+            if row == 0 {
+                return Cut { changed, taken, emptied: true };
+            }
+        }
+        rest &= rest - 1;
+    }
+    Cut { changed, taken, emptied: false }
+}
+
+// Of the `others`, the units that are joined to a unit (are in `from`) or not, as `out` says, and that it is joined to (are in
+// `to`) or not, as `back` says.
+fn class_of(others: u64, from: u64, to: u64, out: bool, back: bool) -> u64
+    ensures { λ r. ⌜ ((u : ℕ) → bit r u ≡ (bit others u && (cond out (bit from u) (not (bit from u)) && cond back (bit to u) (not (bit to u))))) ⌝ }
+{
+    let first = if out { from } else { !from };
+    let second = if back { to } else { !to };
+    others & first & second
+}
+
+// Leaves in the rows of the units of one class only the bays that agree with some bay of the other row.
+fn cut_class<R: Source>(
+    room: &R,
+    strict: bool,
+    out: bool,
+    back: bool,
+    units: u64,
+    other: u64,
+    rows: &mut [u64],
+) -> Cut
+    requires within { ⌜ ((u : ℕ) → bit units u ≡ true → u < length (now rows)) ⌝ }
+    requires below { ⌜ all-below (R·Source .graph (now room) .count) (now rows) ≡ true ⌝ }
+    requires few { ⌜ pair-count (now rows) ≤ 1536 ⌝ }
+    ensures { λ k. ⌜ CutTo units (revised (R·Source .graph (now (room .entry))) out back strict 18446744073709551615 other) (now (rows .entry)) (now (rows .exit)) k ⌝ }
+{
+    let nothing = Cut { changed: 0, taken: 0, emptied: false };
+    if units == 0 {
+        return nothing;
+    }
+    let keep = revise(room, out, back, strict, u64::MAX, other);
+    if keep == u64::MAX >> (64 - room.count()) {
+        return nothing;
+    }
+    cut_rows(rows, units, keep)
+}
+
+// Takes every pair away, and says how many there were.
+fn clear(rows: &mut [u64]) -> usize
+    requires { ⌜ pair-count (now rows) ≤ 1536 ⌝ }
+    ensures rows { λ _. ⌜ now (rows .exit) ≡ replicate (length (now (rows .entry))) 0 ⌝ }
+    ensures taken { λ r. ⌜ r ≡ pair-count (now (rows .entry)) ⌝ }
+{
+    let mut taken: usize = 0;
+    for row in rows.iter_mut() {
+        taken += row.count_ones() as usize;
+        *row = 0;
+    }
+    taken
 }

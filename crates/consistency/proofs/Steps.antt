@@ -1,0 +1,121 @@
+-- What the turns of the sweep keep. Assumes nothing.
+use mathlib.Core.Path.{_≡_, refl, sym, ap, subst, _∙_}
+use mathlib.Core.Bool.{Bool, true, false, _&&_, _||_, not, cond}
+use mathlib.Core.List.{List, [], _∷_}
+use mathlib.Core.Logic.{_⊎_, inl, inr}
+use Prim.Native.Nat.{ℕ, zero, suc, _+_, _-_, _*_, _/_, _%_, _^_, _≤_, _<_}
+use native.Mathlib.Omega.{arith}
+use lib.Bits.{bitAnd, bitOr}
+use lib.Count.{ones, trailingZeros}
+use lib.Dec.{eqb, ltb, leb}
+use lib.ListN.{length, getD, set, replicate, length-set, length-replicate, getD-replicate}
+use lib.Seq.{getD-set-same, getD-set-other}
+use Rattle.std.proofs.shelf.Lists.{getD-past, ext-getD}
+use Rattle.std.proofs.shelf.Tests.{both-ways, ltb-true, lt-ltb, cases-lt, cases-eq, cases-bool, and-parts, and-from}
+use Rattle.graphs.specs.Rows.{bit, pairs, row-of}
+use Rattle.graphs.specs.Graph.{Graph, Sound}
+use Rattle.graphs.proofs.Bits.{bit-none, bit-and, bit-or}
+use Rattle.graphs.proofs.Rows.{bit-row-of}
+use Rattle.placements.specs.Agreement.{agrees-if, agrees}
+use Rattle.filters.specs.Filter.{shaped, pair-count, Inside}
+use Rattle.filters.proofs.Counting.{ones-mono, ones-zero, pair-count-mono}
+use Rattle.filters.proofs.Shapes.{Shape, shape-of, shaped-kept, shaped-few, bit-unit, pair-count-same}
+use Rattle.consistency.specs.declared.Cut.{Cut}
+use Rattle.consistency.specs.Cut.{CutTo, SomeEmpty}
+use Rattle.consistency.specs.Support.{Supporter, Arc, Supported, SupportedBut, Greatest, any-of, revised}
+use Rattle.consistency.proofs.Theory.{any-has, any-some}
+
+pub pair-count-set : (xs : List ℕ) (i x : ℕ) → i < length xs → pair-count (set xs i x) + ones (getD xs i 0) ≡ pair-count xs + ones x
+pair-count-set [] i x l = absurd (omega arith)
+pair-count-set (y ∷ ys) zero x l = omega arith
+pair-count-set (y ∷ ys) (suc i) x l = let h = pair-count-set ys i x (omega arith) in omega arith
+
+pub set-same : (xs : List ℕ) (i : ℕ) → i < length xs → set xs i (getD xs i 0) ≡ xs
+set-same [] i l = absurd (omega arith)
+set-same (x ∷ xs) zero l = refl
+set-same (x ∷ xs) (suc i) l = ap (λ (ys : List ℕ). x ∷ ys) (set-same xs i (omega arith))
+
+pub pair-count-none : (n : ℕ) → pair-count (replicate n 0) ≡ 0
+pair-count-none zero = refl
+pair-count-none (suc n) = let h = pair-count-none n in omega (arith, ones-zero)
+
+pub all-none : (xs : List ℕ) → ((k : ℕ) → k < length xs → getD xs k 0 ≡ 0) → xs ≡ replicate (length xs) 0
+all-none xs h = ext-getD 0 xs (replicate (length xs) 0) (sym (length-replicate (length xs) 0)) (λ i l. h i l ∙ sym (getD-replicate (length xs) i 0 0 l))
+
+getD-none : (n u : ℕ) → _≡_ {A = ℕ} (getD (replicate n 0) u 0) 0
+getD-none n u =
+    elim (cases-lt u n) [
+      | inl l ↦ getD-replicate n u 0 0 l
+      | inr l ↦ getD-past (replicate n 0) u 0 (omega (arith, length-replicate {A = ℕ} n 0))
+    ]
+
+-- From some rows to others: only pair-count that no supported rows hold were taken away, and counted
+pub record Thinned (a r : Graph) (k : Bool) (from : List ℕ) (before : ℕ) (to : List ℕ) (after : ℕ) : Type 0 where
+  pub shape : shaped a r to ≡ true
+  pub many : length to ≡ length from
+  pub inside : Inside to from
+  pub most : (other : List ℕ) → Supported a r k other → Inside other from → Inside other to
+  pub counted : after + pair-count to ≡ before + pair-count from
+  pub small : after + pair-count to ≤ 1536
+
+module _ (a r : Graph) (k : Bool) where
+  pub thin-none : (xs : List ℕ) → Sound r → shaped a r xs ≡ true → Thinned a r k xs 0 xs 0
+  thin-none xs so e = record { shape = e; many = refl; inside = λ u b t. t; most = λ o s i. i; counted = refl; small = omega (arith, shaped-few a r xs so e) }
+
+  pub thin-here : (xs ys : List ℕ) (x y : ℕ) → Thinned a r k xs x ys y → Thinned a r k ys y ys y
+  thin-here xs ys x y h = record { shape = h .shape; many = refl; inside = λ u b t. t; most = λ o s i. i; counted = refl; small = h .small }
+
+  pub thin-both : (xs ys zs : List ℕ) (x y z : ℕ) → Thinned a r k xs x ys y → Thinned a r k ys y zs z → Thinned a r k xs x zs z
+  thin-both xs ys zs x y z h i = record {
+    shape = i .shape;
+    many = i .many ∙ h .many;
+    inside = λ u b t. h .inside u b (i .inside u b t);
+    most = λ o s w. i .most o s (h .most o s w);
+    counted = i .counted ∙ h .counted;
+    small = i .small;
+  }
+
+  pub thin-rises : (xs ys : List ℕ) (x y : ℕ) → Thinned a r k xs x ys y → x ≤ y
+  thin-rises xs ys x y h = let m = pair-count-mono ys xs (h .many) (h .inside) in omega (arith, h .counted)
+
+  pub thin-same : (xs ys : List ℕ) (x y : ℕ) → shaped a r xs ≡ true → Thinned a r k xs x ys y → y ≡ x → ys ≡ xs
+  thin-same xs ys x y s h e = pair-count-same (r .count) ys xs (h .many) (shape-of a r xs s .rest) (h .inside) (omega (arith, h .counted))
+
+  -- where a row is empty, no supported rows hold a pair
+  pub none-left : (shown zs : List ℕ) (z u : ℕ) → shaped a r shown ≡ true → Thinned a r k shown 0 zs z → u < a .count → getD zs u 0 ≡ 0
+      → Greatest a r k shown (replicate (length zs) 0)
+  none-left shown zs z u s t lu e =
+      let N : List ℕ = replicate (length zs) 0 in
+      let none : (w b : ℕ) → bit (getD N w 0) b ≡ true → ⊥ = λ w b o. both-ways (bit (getD N w 0) b) (ap (λ (c : ℕ). bit c b) (getD-none (length zs) w) ∙ bit-none b) o in
+      let empty : (b : ℕ) → bit (getD zs u 0) b ≡ true → ⊥ = λ b o. both-ways (bit (getD zs u 0) b) (ap (λ (c : ℕ). bit c b) e ∙ bit-none b) o in
+      record {
+        as-many = length-replicate {A = ℕ} (length zs) 0 ∙ t .many;
+        inside = λ w b o. absurd (none w b o);
+        supported = λ w v lw lv ne b o. absurd (none w b o);
+        most = λ other i h w b o. absurd (
+            elim (cases-eq w u) [
+              | inl j ↦ empty b (t .most other h i u b (subst (λ (c : ℕ). bit (getD other c 0) b ≡ true) j o))
+              | inr nj ↦
+                  let g = h w u (shape-of a r shown s .unit w b (i w b o)) lu nj b o in
+                  empty (g .bay) (t .most other h i u (g .bay) (g .held))
+            ]);
+      }
+
+  -- left at an empty row, and all rows cleared
+  pub record Cleared (shown last : List ℕ) (total : ℕ) : Type 0 where
+    pub few : total ≤ 1536
+    pub greatest : Greatest a r k shown last
+    pub taken : total ≡ pair-count shown - pair-count last
+
+  pub left-empty : (shown xs ys zs last : List ℕ) (x y z u gone : ℕ) → shaped a r shown ≡ true
+      → Thinned a r k shown 0 xs x → Thinned a r k xs x ys y → Thinned a r k ys y zs z
+      → u < length shown → getD zs u 0 ≡ 0 → last ≡ replicate (length zs) 0 → gone ≡ pair-count zs → Cleared shown last (z + gone)
+  left-empty shown xs ys zs last x y z u gone s h i j lu e la go =
+      let t = thin-both shown xs zs 0 x z h (thin-both xs ys zs x y z i j) in
+      let lu' : u < a .count = omega (arith, shape-of a r shown s .many) in
+      let p : pair-count last ≡ 0 = ap pair-count la ∙ pair-count-none (length zs) in
+      record {
+        few = omega (arith, t .small);
+        greatest = subst (Greatest a r k shown) (sym la) (none-left shown zs z u s t lu' e);
+        taken = omega (arith, t .counted);
+      }
