@@ -3,7 +3,7 @@ use mathlib.Core.Path.{_≡_, refl, sym, ap, subst, _∙_}
 use mathlib.Core.Bool.{Bool, true, false, _&&_, _||_, not, cond}
 use mathlib.Core.List.{List, [], _∷_}
 use mathlib.Core.Logic.{_⊎_, inl, inr}
-use Prim.Native.Nat.{ℕ, zero, suc, _+_, _-_, _*_, _%_, _^_, _≤_, _<_}
+use Prim.Native.Nat.{ℕ, zero, suc, _+_, _-_, _*_, _/_, _%_, _^_, _≤_, _<_}
 use native.Mathlib.Omega.{arith}
 use lib.Bits.{bitAnd, bitOr, and-le-l}
 use lib.Count.{ones, trailingZeros}
@@ -11,10 +11,12 @@ use lib.Dec.{eqb}
 use lib.ListN.{length, getD, set, length-set}
 use lib.Seq.{getD-set-same, getD-set-other}
 use Rattle.std.proofs.shelf.Bits.{one-shl}
-use Rattle.std.proofs.shelf.Tests.{both-ways, eqb-true, eq-eqb, ne-eqb, cases-eq, cases-bool, and-parts, and-from, or-cases, not-from-false}
+use Rattle.std.proofs.shelf.Tests.{both-ways, eqb-true, eq-eqb, ne-eqb, cases-eq, lt-ltb, cases-bool, and-parts, and-from, or-cases, not-from-false}
 use Rattle.graphs.specs.Rows.{bit, pairs}
 use Rattle.graphs.proofs.Bits.{bit-none, bit-and, bit-or, bit-one, bit-lowest, bit-below}
-use Rattle.filters.specs.Filter.{Inside, pair-count}
+use Rattle.graphs.proofs.Rows.{bit-all}
+use Rattle.filters.specs.Filter.{Inside, pair-count, all-below}
+use Rattle.filters.proofs.Shapes.{all-below-at}
 use Rattle.filters.proofs.Counting.{ones-mono, ones-same, below-pow, pair-count-mono}
 use Rattle.consistency.specs.declared.Cut.{Cut}
 use Rattle.consistency.specs.Cut.{CutTo, SomeEmpty}
@@ -217,3 +219,10 @@ module _ (units keep : ℕ) (before : List ℕ) where
       subst (λ (z : List ℕ). Now rest z changed' taken') (sym er)
       (subst (λ (z : ℕ). Now rest rows z taken') (sym ec)
       (subst (λ (z : ℕ). Now rest rows changed z) (sym et) h))
+
+-- rows with no bay at or past n are inside the row of all n bays
+pub inside-all : (n m keep : ℕ) (rows : List ℕ) → n ≤ 64 → all-below n rows ≡ true → m ≡ n → keep ≡ 18446744073709551615 / 2 ^ (64 - m)
+    → (u b : ℕ) → pairs rows u b ≡ true → bit keep b ≡ true
+inside-all n m keep rows few h e is u b t =
+    ap (λ (x : ℕ). bit x b) is ∙ (ap (λ (k : ℕ). bit (18446744073709551615 / 2 ^ (64 - k)) b) e
+    ∙ (bit-all n b few ∙ lt-ltb b n (bit-below (getD rows u 0) n b (all-below-at n rows h u) t)))

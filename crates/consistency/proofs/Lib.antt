@@ -6,3 +6,4 @@ pub mod Lowest
 pub mod Steps
 pub mod Cuts
 pub mod Classes
+pub mod Turns
