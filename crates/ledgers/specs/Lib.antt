@@ -1,0 +1,5 @@
+pub mod Calls
+pub mod Wanted
+pub mod Ledger
+pub mod Answered
+pub mod Counts
