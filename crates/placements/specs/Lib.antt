@@ -1,3 +1,4 @@
 pub mod Agreement
 pub mod Placement
 pub mod Order
+pub mod Morphisms
