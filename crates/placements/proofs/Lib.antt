@@ -1,2 +1,5 @@
 pub mod Masks
 pub mod Morphisms
+pub mod Orders
+pub mod Deciding
+pub mod Listings
