@@ -3,3 +3,4 @@ pub mod Morphisms
 pub mod Orders
 pub mod Deciding
 pub mod Listings
+pub mod Worked
