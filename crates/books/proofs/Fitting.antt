@@ -72,8 +72,8 @@ module _ {U V : Type 0} (test : U → V → Bool) (units : List U) (bays : List 
   handed-first m n i j u b ei ej =
       passes-first (λ unit. passes-at (test unit) (take j bays) b) m i units u ei
       ∙ ap (λ (t : Bool). ltb u m && t)
-        (passes-same (λ unit. passes-at (test unit) (take j bays) b) (λ unit. ltb b n && passes-at (test unit) bays b) units u (λ unit. passes-first (test unit) n j bays b ej)
-         ∙ passes-if (ltb b n) (λ unit. passes-at (test unit) bays b) units u)
+      (passes-same (λ unit. passes-at (test unit) (take j bays) b) (λ unit. ltb b n && passes-at (test unit) bays b) units u (λ unit. passes-first (test unit) n j bays b ej)
+      ∙ passes-if (ltb b n) (λ unit. passes-at (test unit) bays b) units u)
 
 -- ---- rows as they are built
 

@@ -41,9 +41,9 @@ pub served-common : (k needs services : ℕ) → needs < 2 ^ k → eqb (bitAnd n
 served-common k needs services lt =
     bool-ext (eqb (bitAnd needs services) needs) (served k needs services)
     (λ e. served-by k needs services (λ b.
-        there (bit needs b) (bit services b) (sym (bit-and needs services b) ∙ ap (λ (x : ℕ). bit x b) (eqb-true (bitAnd needs services) needs e))))
+    there (bit needs b) (bit services b) (sym (bit-and needs services b) ∙ ap (λ (x : ℕ). bit x b) (eqb-true (bitAnd needs services) needs e))))
     (λ e. eq-eqb (bitAnd needs services) needs (same-rows k (bitAnd needs services) needs (omega (arith, and-le-l needs services)) lt (λ b.
-        bit-and needs services b ∙ elim (cases-lt b k) [
-          | inl below ↦ kept (bit needs b) (bit services b) (served-at k needs services e b below)
-          | inr past ↦ let none : bit needs b ≡ false = bit-past needs b k lt past in ap (λ (t : Bool). t && bit services b) none ∙ sym none
-        ])))
+    bit-and needs services b ∙ elim (cases-lt b k) [
+      | inl below ↦ kept (bit needs b) (bit services b) (served-at k needs services e b below)
+      | inr past ↦ let none : bit needs b ≡ false = bit-past needs b k lt past in ap (λ (t : Bool). t && bit services b) none ∙ sym none
+    ])))

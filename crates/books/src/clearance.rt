@@ -2,11 +2,11 @@
 ghost use mathlib.Core.Path.{_≡_};
 ghost use Prim.Native.Nat.{ℕ};
 ghost use Rattle.books.specs.Clearance.{figure-of, figures-one, figures-two, reach-of, clears};
-
 use crate::Book;
 
 // The figures in mm by kind: base, wall, tall, hob, sink, oven housing, corner, shelf.
 const FIGURES_ONE: [u16; 8] = [0, 600, 1300, 650, 450, 900, 0, 300];
+
 const FIGURES_TWO: [u16; 8] = [0, 600, 1300, 750, 450, 900, 0, 300];
 
 // What kind a unit is. Kinds past the figures are no fault: they suit no bay.
@@ -52,6 +52,7 @@ pub struct ClearanceOne;
 
 pub impl Book for ClearanceOne as ClearanceOneBook {
     type UnitCard = KindCard;
+
     type BayCard = HeightCard;
 
     const EDITION: u16 = 1;
@@ -74,6 +75,7 @@ pub struct ClearanceTwo;
 
 pub impl Book for ClearanceTwo as ClearanceTwoBook {
     type UnitCard = KindCard;
+
     type BayCard = HeightCard;
 
     const EDITION: u16 = 2;

@@ -23,6 +23,7 @@ pub use services::ServicesOneBook;
 // A rule book: its own unit card, its own bay card and its edition.
 pub trait Book {
     type UnitCard;
+
     type BayCard;
 
     const EDITION: u16;
@@ -58,4 +59,87 @@ pub fn suited_rows<B: Book>(book: &B, units: &[B::UnitCard], bays: &[B::BayCard]
         rows[u] = row;
     }
     rows
+}
+
+#[cfg(test)]
+mod tests {
+    use super::*;
+    use std::test::*;
+
+    // Each figure at its edge by edition 1 and by edition 2, and kinds that have no figure.
+    #[test]
+    fn figures() -> Result<(), Fail> {
+        let edges = [
+            (0, 0, true, true),
+            (1, 599, false, false),
+            (1, 600, true, true),
+            (2, 1299, false, false),
+            (2, 1300, true, true),
+            (3, 649, false, false),
+            (3, 650, true, false),
+            (3, 749, true, false),
+            (3, 750, true, true),
+            (4, 449, false, false),
+            (4, 450, true, true),
+            (5, 899, false, false),
+            (5, 900, true, true),
+            (6, 0, true, true),
+            (7, 299, false, false),
+            (7, 300, true, true),
+            (8, 65535, false, false),
+            (255, 65535, false, false),
+        ];
+        for (kind, height, one, two) in edges {
+            let unit = KindCard { kind };
+            let bay = HeightCard { height };
+            check_eq(ClearanceOne.suits(&unit, &bay), one)?;
+            check_eq(ClearanceTwo.suits(&unit, &bay), two)?;
+        }
+        Ok(())
+    }
+
+    #[test]
+    fn editions() -> Result<(), Fail> {
+        check_eq(ClearanceOne.edition_number(), 1)?;
+        check_eq(ClearanceTwo.edition_number(), 2)?;
+        check_eq(ServicesOne.edition_number(), 1)
+    }
+
+    // All eight bits count.
+    #[test]
+    fn every_needed_bit() -> Result<(), Fail> {
+        let asked = [
+            (0, 0, true),
+            (5, 4, false),
+            (5, 13, true),
+            (16, 16, true),
+            (32, 223, false),
+            (64, 191, false),
+            (128, 127, false),
+            (255, 255, true),
+        ];
+        for (needs, services, suits) in asked {
+            check_eq(
+                ServicesOne.suits(&NeedsCard { needs }, &ServicesCard { services }),
+                suits,
+            )?;
+        }
+        Ok(())
+    }
+
+    // A wall unit and a hob over bays of 600, 700 and 300 mm.
+    #[test]
+    fn two_by_three() -> Result<(), Fail> {
+        let units = [KindCard { kind: 1 }, KindCard { kind: 3 }];
+        let bays = [
+            HeightCard { height: 600 },
+            HeightCard { height: 700 },
+            HeightCard { height: 300 },
+        ];
+        let rows = suited_rows(&ClearanceOne, &units, &bays);
+        check_eq(rows[0], 3)?;
+        check_eq(rows[1], 2)?;
+        check_eq(rows[2], 0)?;
+        check_eq(suited_rows(&ClearanceTwo, &units, &bays)[1], 0)
+    }
 }

@@ -1,7 +1,6 @@
 // The services book: a unit needs water, drain, gas, power or extract where it stands.
 ghost use mathlib.Core.Path.{_≡_};
 ghost use Rattle.books.specs.Services.{serves};
-
 use crate::Book;
 
 // What a unit needs, a bit each: water, drain, gas, power, extract from the lowest, and three bits to spare.
@@ -21,6 +20,7 @@ pub struct ServicesOne;
 
 pub impl Book for ServicesOne as ServicesOneBook {
     type UnitCard = NeedsCard;
+
     type BayCard = ServicesCard;
 
     const EDITION: u16 = 1;

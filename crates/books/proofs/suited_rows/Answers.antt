@@ -24,7 +24,7 @@ loop-b-again g c =
     let p : ℕ → Bool = passes-at (g .B·Book .suiting (c .args .book .now) (c .index-units-u .result)) bays in
     let below : b < 64 = omega (arith, length-take (c .min-2 .result - 0) (c .args .bays .now)) in
     let here : p b ≡ c .suits .result =
-        passes-here (g .B·Book .suiting (c .args .book .now) (c .index-units-u .result)) bays b (c .index-bays-b .result) (c .loop-b-test .taken) (c .index-bays-b .is) ∙ sym (c .suits .ensures) in
+    passes-here (g .B·Book .suiting (c .args .book .now) (c .index-units-u .result)) bays b (c .index-bays-b .result) (c .loop-b-test .taken) (c .index-bays-b .is) ∙ sym (c .suits .ensures) in
     elim (c .if-suits .came) [
       | then-suits w ↦ λ k. ap (λ (x : ℕ). bit x k) (w .row-is) ∙ upto-set p (c .loop-b .row) b below (c .loop-b .inv) (here ∙ w .if-suits .taken) k
       | else-suits w ↦ λ k. ap (λ (x : ℕ). bit x k) (w .row-is) ∙ upto-pass p (c .loop-b .row) b (c .loop-b .inv) (here ∙ w .if-suits .left) k
@@ -40,8 +40,8 @@ loop-u-again g c =
     let below : u < 24 = omega (arith, length-take (c .min .result - 0) (c .args .units .now)) in
     built-more (c .loop-u .rows) u (c .loop-b .row) (handed test units bays .suits) below (c .loop-u .inv)
     (λ b.
-       upto-all (c .loop-b .b) (c .loop-b .row) (passes-at (test unit) bays) (c .loop-b .inv) (λ k le. passes-past (test unit) bays k (omega (arith, c .loop-b-test .left))) b
-       ∙ sym (passes-here (λ card. passes-at (test card) bays b) units u unit (c .loop-u-test .taken) (c .index-units-u .is)))
+    upto-all (c .loop-b .b) (c .loop-b .row) (passes-at (test unit) bays) (c .loop-b .inv) (λ k le. passes-past (test unit) bays k (omega (arith, c .loop-b-test .left))) b
+    ∙ sym (passes-here (λ card. passes-at (test card) bays b) units u unit (c .loop-u-test .taken) (c .index-units-u .is)))
 
 pub returns : need.returns
 returns g c = λ u b.
