@@ -11,7 +11,7 @@ use Rattle.graphs.specs.Rows.{Pairs, rows-of}
 use Rattle.placements.specs.Order.{IsFirst}
 use Rattle.search.specs.Walk.{Setting, walk}
 use Rattle.search.specs.Found.{told}
-use Rattle.ledgers.specs.Calls.{Call, begin, «open», strike, free, fit, fit-further, seek, further, what-if, tally, save, Refusal, Answer, done, number, found, yes, none, refused, handed}
+use Rattle.ledgers.specs.Calls.{Call, begin, «open», strike, free, fit, fit-further, seek, further, what-if, tally, save, Refusal, Answer, done, number, found, yes, none, refused, buffer-of}
 use Rattle.ledgers.specs.Wanted.{Wanted, held-to}
 use Rattle.ledgers.specs.Ledger.{Ledger, open-pairs, form-of, Verdict, accepted, declined, verdict}
 
@@ -74,4 +74,4 @@ Judged (declined e) D P = D e
 
 -- what a call answers, declined or not
 abbrev pub Right : Ledger → Call → Answer → List ℕ → Type 0
-Right l c a b = Judged (verdict l c) (λ e. (a ≡ refused e) × (b ≡ handed c)) (Answered l c a b)
+Right l c a b = Judged (verdict l c) (λ e. (a ≡ refused e) × (b ≡ buffer-of c)) (Answered l c a b)

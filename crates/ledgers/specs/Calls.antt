@@ -35,15 +35,15 @@ pub data Answer : Type 0 where
   refused : Refusal → Answer
 
 -- the buffer that a call is handed; where there is none, the empty one
-abbrev pub handed : Call → List ℕ
-handed (begin m n) = []
-handed («open» bs) = []
-handed (strike u b) = []
-handed (free u b) = []
-handed (fit c) = []
-handed (fit-further c) = []
-handed (seek s out) = out
-handed (further s out) = out
-handed (what-if u b s) = []
-handed tally = []
-handed (save out) = out
+abbrev pub buffer-of : Call → List ℕ
+buffer-of (begin m n) = []
+buffer-of («open» bs) = []
+buffer-of (strike u b) = []
+buffer-of (free u b) = []
+buffer-of (fit c) = []
+buffer-of (fit-further c) = []
+buffer-of (seek s out) = out
+buffer-of (further s out) = out
+buffer-of (what-if u b s) = []
+buffer-of tally = []
+buffer-of (save out) = out

@@ -1,5 +1,2 @@
 pub mod Calls
 pub mod Wanted
-pub mod Ledger
-pub mod Answered
-pub mod Counts

@@ -10,6 +10,7 @@ use Rattle.graphs.specs.Rows.{Pairs}
 use Rattle.graphs.specs.Graph.{Sound}
 use Rattle.placements.specs.Placement.{Placement, Within}
 use Rattle.placements.specs.Order.{Before}
+use Rattle.placements.specs.Tests.{placement-test, within-test, before-test}
 use Rattle.filters.specs.Filter.{Lawful}
 use Rattle.search.specs.Walk.{Setting}
 
@@ -23,6 +24,14 @@ pub record Wanted (s : Setting) (r : Pairs) (o : Option (List ℕ)) (w : List �
   pub placed : Placement (s .arrangement) (s .room) (s .strict) w
   pub within : Within r w
   pub after : After o w
+
+-- the same as a test that computes
+abbrev pub after-test : Option (List ℕ) → List ℕ → Bool
+after-test None w = true
+after-test (Some v) w = before-test v w
+
+abbrev pub wanted : Setting → Pairs → Option (List ℕ) → List ℕ → Bool
+wanted s r o w = placement-test (s .arrangement) (s .room) (s .strict) w && (within-test r w && after-test o w)
 
 -- the pairs with the unit u held to the bay b
 abbrev pub held-to : Pairs → ℕ → ℕ → Pairs
