@@ -1,15 +1,14 @@
 -- The rows of the pairs whose cards suit: one bay more, one unit more, and what a caller reads off them. Assumes nothing.
 use mathlib.Core.Path.{_≡_, refl, sym, ap, subst, _∙_}
-use mathlib.Core.Bool.{Bool, true, false, _&&_}
-use mathlib.Core.Logic.{_⊎_, inl, inr}
+use mathlib.Core.Bool.{Bool, false, _&&_}
+use mathlib.Core.Logic.{inl, inr}
 use mathlib.Core.List.{List, [], _∷_}
 use Prim.Native.Nat.{ℕ, zero, suc, min, _+_, _-_, _^_, _<_, _≤_}
 use native.Mathlib.Omega.{arith}
-use lib.Bits.{bitOr}
 use lib.Dec.{ltb}
 use lib.ListN.{length, getD, set, take, replicate}
 use Rattle.std.proofs.shelf.Lists.{getD-set-same, getD-set-other, length-set}
-use Rattle.std.proofs.shelf.Tests.{cases-eq, cases-lt, cases-bool, ltb-true, lt-ltb, le-ltb, and-right, both-ways}
+use Rattle.std.proofs.shelf.Tests.{cases-eq, cases-lt, lt-ltb, le-ltb, and-right, both-ways}
 use Rattle.std.proofs.shelf.Ways.{tells}
 use Rattle.graphs.specs.Rows.{bit, Pairs, pairs}
 use Rattle.graphs.proofs.Bits.{bit-none, bits-below}

@@ -1,6 +1,5 @@
 // The clearance book: a unit asks for a clear height by its kind.
 ghost use mathlib.Core.Path.{_≡_};
-ghost use Prim.Native.Nat.{ℕ};
 ghost use Rattle.books.specs.Clearance.{figure-of, figures-one, figures-two, reach-of, clears};
 use crate::Book;
 

@@ -31,7 +31,7 @@ pub trait Book {
     // The edition, for contracts.
     ghost edition: { ℕ };
 
-    // What the book means: which unit card suits which bay card.
+    // What the book means: which unit card suits which bay card. Asked twice it says the same.
     ghost suiting: { Self → Self·UnitCard → Self·BayCard → Bool };
 
     fn suits(&self, unit: &Self::UnitCard, bay: &Self::BayCard) -> bool

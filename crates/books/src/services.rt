@@ -1,5 +1,4 @@
 // The services book: a unit needs water, drain, gas, power or extract where it stands.
-ghost use mathlib.Core.Path.{_≡_};
 ghost use Rattle.books.specs.Services.{serves};
 use crate::Book;
 

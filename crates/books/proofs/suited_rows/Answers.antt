@@ -2,10 +2,10 @@ use mathlib.Core.Bool.{Bool}
 use mathlib.Core.Path.{_≡_, sym, ap, _∙_}
 use Prim.Native.Nat.{ℕ, min, _-_, _<_}
 use native.Mathlib.Omega.{arith}
-use lib.ListN.{length, take}
+use lib.ListN.{take}
 use Rattle.std.proofs.shelf.Lists.{length-take}
 use Rattle.graphs.specs.Rows.{bit}
-use Rattle.graphs.proofs.Rows.{Upto, upto-none, upto-set, upto-pass}
+use Rattle.graphs.proofs.Rows.{upto-none, upto-set, upto-pass}
 use Rattle.books.specs.Fit.{passes-at, handed}
 use Rattle.books.proofs.Fitting.{passes-here, passes-past, upto-all, built-none, built-more, built-all, handed-past-units, handed-first}
 use Rattle.books.proofs.suited_rows.Needs as need
