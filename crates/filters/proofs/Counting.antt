@@ -89,5 +89,3 @@ ones-same-k (suc k) x y lx ly h e =
 
 pub ones-same : (n x y : ℕ) → y < 2 ^ n → ((b : ℕ) → bit x b ≡ true → bit y b ≡ true) → ones y ≤ ones x → x ≡ y
 ones-same n x y l h e = ones-same-k n x y (bits-below n x (λ c t. bit-below y n c l (h c t))) l h e
-
--- shapes

@@ -9,14 +9,14 @@ use native.Mathlib.Omega.{arith}
 use lib.Count.{ones}
 use lib.Dec.{eqb, ltb, leb}
 use lib.ListN.{length, getD}
-use lib.Pow.{pow-pos}
+use lib.Pow.{pow-pos, pow-mono}
 use Rattle.std.proofs.shelf.Lists.{getD-past}
 use Rattle.std.proofs.shelf.Tests.{both-ways, ltb-true, leb-true, eqb-true, lt-ltb, le-leb, eq-eqb, cases-lt, cases-bool, and-parts, and-from}
 use Rattle.graphs.specs.Rows.{bit, pairs}
 use Rattle.graphs.specs.Graph.{Graph, Sound}
 use Rattle.graphs.proofs.Bits.{bit-none, bit-below, bits-below}
 use Rattle.filters.specs.Filter.{shaped, all-below, pair-count, Inside, Lawful, Meaning}
-use Rattle.filters.proofs.Counting.{ones-same, ones-mono, pair-count-mono, pair-count-below}
+use Rattle.filters.proofs.Counting.{below-pow, ones-same, ones-mono, pair-count-mono, pair-count-below}
 
 pub all-below-at : (n : ℕ) (rows : List ℕ) → all-below n rows ≡ true → (u : ℕ) → getD rows u 0 < 2 ^ n
 all-below-at n [] e u = pow-pos n
@@ -109,3 +109,18 @@ taken-few f l a r strict rows s =
 
 pub taken-less : (f : Meaning) → Lawful f → (a r : Graph) (strict : Bool) (rows : List ℕ) → pair-count (f a r strict rows) ≤ pair-count rows
 taken-less f l a r strict rows = pair-count-mono (f a r strict rows) rows (l .as-many a r strict rows) (l .adds-none a r strict rows)
+
+widest : (xs : List ℕ) → (n : ℕ) × (all-below n xs ≡ true)
+widest [] = (0, refl)
+widest (x ∷ xs) =
+    let t = widest xs in
+    let n : ℕ = x + t .0 in
+    (n, and-from (ltb x (2 ^ n)) (all-below n xs)
+    (lt-ltb x (2 ^ n) (let p = below-pow x in let m : 2 ^ x ≤ 2 ^ n = pow-mono (omega arith) in omega arith))
+    (all-below-from n xs (λ u. let b = all-below-at (t .0) xs (t .1) u in let m : 2 ^ (t .0) ≤ 2 ^ n = pow-mono (omega arith) in omega arith)))
+
+-- a filter that takes nothing away changes nothing
+pub unchanged : (f : Meaning) → Lawful f → (a r : Graph) (strict : Bool) (rows : List ℕ) → pair-count rows ≡ pair-count (f a r strict rows) → f a r strict rows ≡ rows
+unchanged f l a r strict rows e =
+    let w = widest rows in
+    pair-count-same (w .0) (f a r strict rows) rows (l .as-many a r strict rows) (w .1) (l .adds-none a r strict rows) (omega arith)

@@ -4,7 +4,17 @@ ghost use mathlib.Core.Bool.{Bool, true};
 ghost use mathlib.Core.List.{List};
 ghost use Prim.Native.Nat.{ℕ};
 ghost use Rattle.filters.specs.Filter.{Meaning, Lawful, Counted, Resumes, shaped, empty-count};
+pub use chain::Open;
+pub use chain::OpenFilter;
+pub use chain::Then;
+pub use chain::ThenFilter;
 use graphs::Source;
+pub use turns::repeat;
+pub use turns::Repeated;
+pub use turns::RepeatedFilter;
+
+mod chain;
+mod turns;
 
 // How many pairs a filter took away, and how many rows are empty after it.
 #[derive(Clone, Copy, PartialEq, Eq, Debug)]

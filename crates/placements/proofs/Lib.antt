@@ -1,1 +1,6 @@
 pub mod Masks
+pub mod Morphisms
+pub mod Orders
+pub mod Deciding
+pub mod Listings
+pub mod Worked
