@@ -1,4 +1,3 @@
-pub mod Laws
 pub mod Theory
 pub mod Rooms
 pub mod Lone

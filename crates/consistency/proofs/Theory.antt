@@ -20,7 +20,7 @@ use Rattle.filters.specs.Filter.{shaped, pair-count, Inside, Lawful, Meaning, C
 use Rattle.filters.specs.Composed.{repeat, repeat-meaning}
 use Rattle.filters.proofs.Counting.{pair-count-mono}
 use Rattle.filters.proofs.Shapes.{Shape, shape-of, shaped-kept, bit-unit, pair-count-same, all-below-at, taken-less}
-use Rattle.consistency.proofs.Laws.{repeat-lawful}
+use Rattle.filters.proofs.Laws.{repeat-lawful}
 use Rattle.consistency.specs.Support.{Supporter, Arc, Supported, SupportedBut, Greatest, AllOrNone, any-of, supported-by, swept-row, swept, sweep-meaning, support-meaning, SupportGreatest}
 
 pub bool-ext : (s t : Bool) → (s ≡ true → t ≡ true) → (t ≡ true → s ≡ true) → s ≡ t

@@ -159,3 +159,139 @@ module _ (a r : Graph) (few : r .count ≤ 64) (k : Bool) where
     cut-arc e u tu b t =
         let q = any-some (getD ys v 0) (r .count) (agrees-if r out back k b) (keep-any out back 18446744073709551615 (getD ys v 0) b (h .cuts e u b tu t)) in
         record { bay = q .at; held = ap (λ (x : ℕ). bit x (q .at)) cut-here ∙ q .held; agreeing = agree-is u b (q .at) tu ∙ q .passes }
+
+  abbrev next : ℕ → ℕ
+  next changed = bitAnd changed (changed - 1)
+
+  pub changed-fits : (changed : ℕ) → a .count ≤ 64 → ((w : ℕ) → bit changed w ≡ true → w < a .count) → changed < 2 ^ 64
+  changed-fits changed l h = let b = bits-below (a .count) changed h in let m : 2 ^ (a .count) ≤ 2 ^ 64 = pow-mono l in omega arith
+
+  module _ (la : a .count ≤ 64) (first : ℕ) (shown : List ℕ) where
+    -- the unit that is taken out of the work list
+    pub lowest-unit : (xs : List ℕ) (changed x : ℕ) → Sweeping a r k first shown xs changed x → 0 < changed
+        → (trailingZeros 64 changed < a .count) × (trailingZeros 64 changed < length xs)
+    lowest-unit xs changed x h l =
+        let v : ℕ = trailingZeros 64 changed in
+        let lv : v < a .count = h .within v (bit-lowest 64 changed l (changed-fits changed la (h .within))) in
+        (lv, omega (arith, shape-of a r xs (h .thin .shape) .many))
+
+    next-parts : (changed w : ℕ) → 0 < changed → changed < 2 ^ 64 → bit (next changed) w ≡ true → bit changed w ≡ true
+    next-parts changed w l f t = and-parts (bit changed w) (not (eqb w (trailingZeros 64 changed))) (sym (lowest-off 64 changed l f w) ∙ t) .0
+
+    pub turn-start : (xs : List ℕ) (changed x : ℕ) → Sweeping a r k first shown xs changed x → 0 < changed
+        → Turned a r k (trailingZeros 64 changed) xs (next changed) x xs (next changed) x 0
+    turn-start xs changed x h l = record {
+      thin = thin-here a r k shown xs 0 x (h .thin);
+      here = refl;
+      kept = λ w t. (t, refl);
+      within = λ w t. h .within w (next-parts changed w l (changed-fits changed la (h .within)) t);
+      arcs = λ u lu ne c. absurd (omega arith);
+      still = λ e. refl;
+    }
+
+    -- all classes are done
+    pub turn-end : (xs ys : List ℕ) (changed x now y class : ℕ) → Sweeping a r k first shown xs changed x → 0 < changed
+        → Turned a r k (trailingZeros 64 changed) xs (next changed) x ys now y class → class ≡ 4 → Sweeping a r k first shown ys now y
+    turn-end xs ys changed x now y class h l t e =
+        let v : ℕ = trailingZeros 64 changed in
+        let f = changed-fits changed la (h .within) in
+        record {
+          thin = thin-both a r k shown xs ys 0 x y (h .thin) (t .thin);
+          within = t .within;
+          but = λ p u w lu lw ne o. elim (cases-eq w v) [
+            | inl z ↦ subst (λ (n : ℕ). Arc a r k ys u n) (sym z)
+                (t .arcs u lu (λ q. ne (q ∙ sym z)) (let c = code-below (a .joined u v) (a .joined v u) in omega arith))
+            | inr nz ↦
+                let q = t .kept w o in
+                arc-kept xs ys u w (t .thin .inside) (q .1) (h .but p u w lu lw ne
+                (elim (cases-bool (bit changed w)) [
+                  | inl s ↦ absurd (both-ways (bit (next changed) w) (q .0)
+                      (lowest-off 64 changed l f w ∙ and-from (bit changed w) (not (eqb w v)) s (not-from-false (eqb w v) (ne-eqb w v nz))))
+                  | inr s ↦ s
+                ]))
+          ];
+        }
+
+    -- each turn leaves fewer pairs, or as many and a shorter work list
+    pub turn-less : (xs ys : List ℕ) (changed x now y class : ℕ) → 0 < changed
+        → Turned a r k (trailingZeros 64 changed) xs (next changed) x ys now y class
+        → 18446744073709551616 * pair-count ys + now < 18446744073709551616 * pair-count xs + changed
+    turn-less xs ys changed x now y class l t =
+        let up = thin-rises a r k xs ys x y (t .thin) in
+        let f = changed-fits now la (t .within) in
+        elim (cases-eq y x) [
+          | inl e ↦ omega (arith, t .thin .counted, t .still e, and-le-r changed (changed - 1))
+          | inr ne ↦ omega (arith, t .thin .counted)
+        ]
+
+    -- the work list is empty
+    pub sweep-end : (rows : List ℕ) (changed taken : ℕ) → Sweeping a r k first shown rows changed taken → changed ≡ 0
+        → (taken + pair-count rows ≡ pair-count shown) × (SupportedBut a r k first shown → Greatest a r k shown rows)
+    sweep-end rows changed taken h z = (omega (arith, h .thin .counted), λ p. record {
+      as-many = h .thin .many;
+      inside = h .thin .inside;
+      supported = λ u v lu lv ne. h .but p u v lu lv ne (ap (λ (x : ℕ). bit x v) z ∙ bit-none v);
+      most = λ other i s. h .thin .most other s i;
+    })
+
+    pub sweep-start : (m : ℕ) → Sound r → shaped a r shown ≡ true → m ≡ length shown → Sweeping a r k first shown shown (bitAnd first (18446744073709551615 / 2 ^ (64 - m))) 0
+    sweep-start m so e is =
+        let n = shape-of a r shown e .many in
+        let lm : m ≤ 64 = omega arith in
+        record {
+          thin = thin-none a r k shown so e;
+          within = λ w t. let q = ltb-true w m (and-parts (bit first w) (ltb w m) (sym (bit-mask m first w lm) ∙ t) .1) in omega arith;
+          but = λ p u v lu lv ne o. p u v lu lv ne
+              (elim (cases-bool (bit first v)) [
+                | inl s ↦ absurd (both-ways (bit (bitAnd first (18446744073709551615 / 2 ^ (64 - m))) v) o
+                    (bit-mask m first v lm ∙ and-from (bit first v) (ltb v m) s (lt-ltb v m (omega arith))))
+                | inr s ↦ s
+              ]);
+        }
+
+  module _ (v : ℕ) (lv : v < a .count) (xs : List ℕ) (old x : ℕ) (ys : List ℕ) (changed y class : ℕ) (t : Turned a r k v xs old x ys changed y class)
+      (units other : ℕ) (is : other ≡ getD xs v 0) (cl : Class a v (eqb (class % 2) 1) (eqb (class / 2) 1) units) (zs : List ℕ) (cut : Cut) (len : length zs ≡ length ys)
+      (h : CutTo units (revised r (eqb (class % 2) 1) (eqb (class / 2) 1) k 18446744073709551615 other) ys zs cut) where
+    cut-now : CutTo units (revised r (eqb (class % 2) 1) (eqb (class / 2) 1) k 18446744073709551615 (getD ys v 0)) ys zs cut
+    cut-now = subst (λ (n : ℕ). CutTo units (revised r (eqb (class % 2) 1) (eqb (class / 2) 1) k 18446744073709551615 n) ys zs cut) (is ∙ sym (t .here)) h
+
+    pub turn-thin : Thinned a r k xs x zs (y + cut .taken)
+    turn-thin = thin-both a r k xs ys zs x y (y + cut .taken) (t .thin)
+        (cut-thin v lv (eqb (class % 2) 1) (eqb (class / 2) 1) units cl ys zs cut len (t .thin .shape) cut-now y (t .thin .small))
+
+    pub turn-more : cut .emptied ≡ false → Turned a r k v xs old x zs (bitOr changed (cut .changed)) (y + cut .taken) (class + 1)
+    turn-more e =
+        let out : Bool = eqb (class % 2) 1 in
+        let back : Bool = eqb (class / 2) 1 in
+        let here : getD zs v 0 ≡ getD ys v 0 = cut-here v lv out back units cl ys zs cut len (t .thin .shape) cut-now in
+        record {
+          thin = turn-thin;
+          here = here ∙ t .here;
+          kept = λ w o.
+              let q = or-none (bit changed w) (bit (cut .changed) w) (sym (bit-or changed (cut .changed) w) ∙ o) in
+              let p = t .kept w (q .0) in
+              (p .0, h .same w (q .1) ∙ p .1);
+          within = λ w o. elim (or-cases (bit changed w) (bit (cut .changed) w) (sym (bit-or changed (cut .changed) w) ∙ o)) [
+            | inl s ↦ t .within w s
+            | inr s ↦ cl .below w (h .only w s)
+          ];
+          arcs = λ u lu ne c. elim (cases-eq class (code (a .joined u v) (a .joined v u))) [
+            | inl z ↦
+                let q = code-parts (a .joined u v) (a .joined v u) class z in
+                cut-arc v lv out back units cl ys zs cut len (t .thin .shape) cut-now e u (cl .each u lu ne (q .0) (q .1))
+            | inr nz ↦ arc-kept ys zs u v (h .inside) here (t .arcs u lu ne (omega arith))
+          ];
+          still = λ z.
+              let up = thin-rises a r k xs ys x y (t .thin) in
+              let none : cut .taken ≡ 0 = omega arith in
+              let yx : y ≡ x = omega arith in
+              ap (λ (n : ℕ). bitOr changed n) (h .still none) ∙ or-zero-r changed ∙ t .still yx;
+        }
+
+-- a row is empty where empty rows are counted
+pub some-empty : (rows : List ℕ) → (empty-count rows ≡ 0 → ⊥) → SomeEmpty rows
+some-empty [] ne = absurd (ne refl)
+some-empty (zero ∷ xs) ne = record { unit = 0; below = omega arith; empty = refl }
+some-empty (suc x ∷ xs) ne =
+    let q = some-empty xs (λ e. ne (omega arith)) in
+    record { unit = suc (q .unit); below = omega (arith, q .below); empty = q .empty }
