@@ -1,4 +1,8 @@
 // The filter that takes nothing away, and two filters one after the other.
+ghost use mathlib.Core.Path.{_≡_};
+ghost use mathlib.Core.Bool.{true};
+ghost use Prim.Native.Nat.{_≤_};
+ghost use Rattle.filters.specs.Filter.{pair-count};
 ghost use Rattle.filters.specs.Composed.{open-meaning, then-meaning};
 use crate::empty_rows;
 use crate::Counts;
@@ -15,6 +19,13 @@ pub impl Filter for Open as OpenFilter {
     fn apply<A: Source, R: Source>(&self, _arrangement: &A, _room: &R, _strict: bool, rows: &mut [u64]) -> Counts {
         Counts { taken: 0, empty: empty_rows(rows) }
     }
+}
+
+// Whether there are so few rows that counts of their pairs never wrap.
+fn countable(rows: &[u64]) -> bool
+    ensures { λ k. ⌜ (k ≡ true → pair-count (now (rows .entry)) ≤ 1536) ⌝ }
+{
+    rows.is_empty() || rows.len() <= 24
 }
 
 // Shows the second filter what the first leaves, also where the first leaves a row empty.
@@ -35,7 +46,7 @@ pub impl<F: Filter, G: Filter> Filter for Then<F, G> as ThenFilter {
 
     // The first filter has seen all the rows that the second cut; the second need only be resumed where the first takes nothing away.
     fn resume<A: Source, R: Source>(&self, arrangement: &A, room: &R, strict: bool, changed: u64, rows: &mut [u64]) -> Counts {
-        if rows.len() > 24 {
+        if !countable(rows) {
             return self.apply(arrangement, room, strict, rows);
         }
         let a = self.first.resume(arrangement, room, strict, u64::MAX, rows);

@@ -2,7 +2,7 @@ use native.Mathlib.Omega.{arith}
 use mathlib.Core.Path.{_≡_, ap, _∙_}
 use Rattle.graphs.specs.Graph.{Graph}
 use Rattle.filters.specs.Filter.{Meaning, pair-count}
-use Rattle.filters.proofs.Laws.{then-resumes, then-applies, few-pairs}
+use Rattle.filters.proofs.Laws.{then-resumes, then-applies}
 use Rattle.filters.proofs.chain.ThenFilter.resume.Needs as need
 
 pub returns-then-a-eq0 : need.returns-then-a-eq0
@@ -19,7 +19,7 @@ returns-then-a-eq0 g c =
 
 pub add-result : need.add-result
 add-result g c =
-    let f = few-pairs (c .args .rows .now) (λ u. omega (arith, c .typed .rows u .fits)) in
+    let few = c .countable .ensures (c .if-not-countable .left) in
     omega (arith, c .resume-a .ensures .counts .taken, c .apply-b .ensures .counts .taken)
 
 pub returns : need.returns
