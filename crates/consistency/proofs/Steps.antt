@@ -103,19 +103,15 @@ module _ (a r : Graph) (k : Bool) where
 
   -- left at an empty row, and all rows cleared
   pub record Cleared (shown last : List ℕ) (total : ℕ) : Type 0 where
-    pub few : total ≤ 1536
     pub greatest : Greatest a r k shown last
-    pub taken : total ≡ pair-count shown - pair-count last
+    pub taken : total + pair-count last ≡ pair-count shown
 
-  pub left-empty : (shown xs ys zs last : List ℕ) (x y z u gone : ℕ) → shaped a r shown ≡ true
-      → Thinned a r k shown 0 xs x → Thinned a r k xs x ys y → Thinned a r k ys y zs z
-      → u < length shown → getD zs u 0 ≡ 0 → last ≡ replicate (length zs) 0 → gone ≡ pair-count zs → Cleared shown last (z + gone)
-  left-empty shown xs ys zs last x y z u gone s h i j lu e la go =
-      let t = thin-both shown xs zs 0 x z h (thin-both xs ys zs x y z i j) in
-      let lu' : u < a .count = omega (arith, shape-of a r shown s .many) in
+  pub cleared : (shown zs last : List ℕ) (z gone : ℕ) → shaped a r shown ≡ true → Thinned a r k shown 0 zs z → SomeEmpty zs
+      → last ≡ replicate (length zs) 0 → gone ≡ pair-count zs → Cleared shown last (z + gone)
+  cleared shown zs last z gone s t e la go =
       let p : pair-count last ≡ 0 = ap pair-count la ∙ pair-count-none (length zs) in
+      let l : e .unit < a .count = omega (arith, shape-of a r shown s .many, t .many, e .below) in
       record {
-        few = omega (arith, t .small);
-        greatest = subst (Greatest a r k shown) (sym la) (none-left shown zs z u s t lu' e);
+        greatest = subst (Greatest a r k shown) (sym la) (none-left shown zs z (e .unit) s t l (e .empty));
         taken = omega (arith, t .counted);
       }

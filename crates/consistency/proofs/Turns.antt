@@ -5,7 +5,7 @@ use mathlib.Core.List.{List, [], _∷_}
 use mathlib.Core.Logic.{_⊎_, inl, inr}
 use Prim.Native.Nat.{ℕ, zero, suc, _+_, _-_, _*_, _/_, _%_, _^_, _≤_, _<_}
 use native.Mathlib.Omega.{arith}
-use lib.Bits.{bitAnd, bitOr, and-le-r}
+use lib.Bits.{bitAnd, bitOr, and-le-r, or-zero-r}
 use lib.Count.{ones, trailingZeros}
 use lib.Dec.{eqb, ltb}
 use lib.ListN.{length, getD, replicate}
@@ -25,7 +25,7 @@ use Rattle.consistency.specs.Support.{Supporter, Arc, Supported, SupportedBut,
 use Rattle.consistency.proofs.Theory.{any-has, any-some}
 use Rattle.consistency.proofs.Lowest.{lowest-off, bit-mask}
 use Rattle.consistency.proofs.Cuts.{or-none}
-use Rattle.consistency.proofs.Steps.{Thinned, thin-none, thin-here, thin-both, thin-rises, Cleared, left-empty}
+use Rattle.consistency.proofs.Steps.{Thinned, thin-none, thin-here, thin-both, thin-rises}
 
 -- the classes of the other units by their joints to and from one unit, in the order in which they are gone through
 pub code : Bool → Bool → ℕ
@@ -255,9 +255,12 @@ module _ (a r : Graph) (few : r .count ≤ 64) (k : Bool) where
     cut-now : CutTo units (revised r (eqb (class % 2) 1) (eqb (class / 2) 1) k 18446744073709551615 (getD ys v 0)) ys zs cut
     cut-now = subst (λ (n : ℕ). CutTo units (revised r (eqb (class % 2) 1) (eqb (class / 2) 1) k 18446744073709551615 n) ys zs cut) (is ∙ sym (t .here)) h
 
-    pub turn-thin : Thinned a r k xs x zs (y + cut .taken)
+    turn-thin : Thinned a r k xs x zs (y + cut .taken)
     turn-thin = thin-both a r k xs ys zs x y (y + cut .taken) (t .thin)
         (cut-thin v lv (eqb (class % 2) 1) (eqb (class / 2) 1) units cl ys zs cut len (t .thin .shape) cut-now y (t .thin .small))
+
+    pub turn-all : (shown : List ℕ) → Thinned a r k shown 0 xs x → Thinned a r k shown 0 zs (y + cut .taken)
+    turn-all shown h = thin-both a r k shown xs zs 0 x (y + cut .taken) h turn-thin
 
     pub turn-more : cut .emptied ≡ false → Turned a r k v xs old x zs (bitOr changed (cut .changed)) (y + cut .taken) (class + 1)
     turn-more e =
@@ -293,5 +296,6 @@ pub some-empty : (rows : List ℕ) → (empty-count rows ≡ 0 → ⊥) → Some
 some-empty [] ne = absurd (ne refl)
 some-empty (zero ∷ xs) ne = record { unit = 0; below = omega arith; empty = refl }
 some-empty (suc x ∷ xs) ne =
+    let full : cond {A = ℕ} (eqb (suc x) 0) 1 0 ≡ 0 = ap (λ (t : Bool). cond {A = ℕ} t 1 0) (ne-eqb (suc x) 0 (λ z. omega arith)) in
     let q = some-empty xs (λ e. ne (omega arith)) in
     record { unit = suc (q .unit); below = omega (arith, q .below); empty = q .empty }

@@ -5,10 +5,11 @@ ghost use Prim.Native.Nat.{ℕ, _+_, _<_, _≤_};
 ghost use lib.ListN.{length, replicate};
 ghost use Rattle.graphs.specs.Rows.{bit, row-of};
 ghost use Rattle.placements.specs.Agreement.{agrees-if};
-ghost use Rattle.consistency.specs.Support.{SupportGreatest, any-of, revised};
+ghost use Rattle.consistency.specs.Support.{SupportGreatest, SupportedBut, Greatest, any-of, revised};
 ghost use Rattle.consistency.specs.Rooms.{RoomsHold};
 ghost use Rattle.consistency.specs.Cut.{CutTo};
-ghost use Rattle.filters.specs.Filter.{all-below, pair-count};
+ghost use Rattle.filters.specs.Filter.{all-below, pair-count, shaped};
+use filters::empty_rows;
 use graphs::Source;
 use placements::agreeing;
 
@@ -139,4 +140,42 @@ fn clear(rows: &mut [u64]) -> usize
         *row = 0;
     }
     taken
+}
+
+// Takes away pairs without support until each has one, and says how many. The rows are checked against those of the units in the
+// work list `changed` only; where each pair has its supports at all others, what is left is the greatest supported rows.
+fn settle<A: Source, R: Source>(arrangement: &A, room: &R, strict: bool, first: u64, rows: &mut [u64]) -> usize
+    requires { ⌜ shaped (A·Source .graph (now arrangement)) (R·Source .graph (now room)) (now rows) ≡ true ⌝ }
+    ensures taken { λ n. ⌜ n + pair-count (now (rows .exit)) ≡ pair-count (now (rows .entry)) ⌝ }
+    ensures greatest { λ _. ⌜ (SupportedBut (A·Source .graph (now (arrangement .entry))) (R·Source .graph (now (room .entry))) strict first (now (rows .entry)) → Greatest (A·Source .graph (now (arrangement .entry))) (R·Source .graph (now (room .entry))) strict (now (rows .entry)) (now (rows .exit))) ⌝ }
+{
+    if empty_rows(rows) != 0 {
+        return clear(rows);
+    }
+    let all = u64::MAX >> (64 - rows.len());
+    let mut changed = first & all;
+    let mut taken: usize = 0;
+    'sweep: loop {
+        if changed == 0 {
+            return taken;
+        }
+        let v = changed.trailing_zeros() as usize;
+        changed &= changed - 1;
+        let other = rows[v];
+        let others = all & !(1 << v);
+        let from = arrangement.column(v);
+        let to = arrangement.row(v);
+        for class in 0..4_u8 {
+            let out = class % 2 == 1;
+            let back = class / 2 == 1;
+            let units = class_of(others, from, to, out, back);
+            let cut = cut_class(room, strict, out, back, units, other, rows);
+            changed |= cut.changed;
+            taken += cut.taken;
+            if cut.emptied {
+                break 'sweep;
+            }
+        }
+    }
+    taken + clear(rows)
 }
