@@ -15,6 +15,7 @@ use Rattle.graphs.specs.Graph.{Graph, Sound}
 use Rattle.graphs.proofs.Bits.{bit-none, bit-and, bits-below, same-rows}
 use Rattle.graphs.proofs.Rows.{bit-row-of}
 use Rattle.placements.specs.Agreement.{agrees}
+use Rattle.placements.proofs.Masks.{bit-full}
 use Rattle.placements.specs.Placement.{Placement, Within}
 use Rattle.filters.specs.Filter.{shaped, pair-count, Inside, Lawful, Meaning, CutFrom}
 use Rattle.filters.specs.Composed.{repeat, repeat-meaning}
@@ -225,3 +226,17 @@ pub cut-supported : (a r : Graph) (k : Bool) (base rows : List ℕ) (changed : �
 cut-supported a r k base rows changed s h u v lu lv ne out b t =
     let g = s u v lu lv ne b (h .inside u b t) in
     record { bay = g .bay; held = ap (λ (x : ℕ). bit x (g .bay)) (h .same v out) ∙ g .held; agreeing = g .agreeing }
+
+-- and so what they settle at is what the filter leaves of them
+pub resumed : (a r : Graph) (k : Bool) (before rows last : List ℕ) (changed : ℕ) → shaped a r before ≡ true → CutFrom (support-meaning a r k before) changed rows
+    → (shaped a r rows ≡ true → SupportedBut a r k changed rows → Greatest a r k rows last) → last ≡ support-meaning a r k rows
+resumed a r k before rows last changed e h f =
+    let g = support-greatest a r k before e in
+    let base = support-meaning a r k before in
+    let eb : shaped a r base ≡ true = shaped-kept a r before base e (g .as-many) (g .inside) in
+    let er : shaped a r rows ≡ true = shaped-kept a r base rows eb (h .as-many) (h .inside) in
+    meaning-is a r k rows last er (f er (cut-supported a r k base rows changed (g .supported) h))
+
+-- nothing is known of the rows where all units are in the set
+pub all-changed : (a r : Graph) (k : Bool) (rows : List ℕ) → a .count ≤ 64 → SupportedBut a r k 18446744073709551615 rows
+all-changed a r k rows l u v lu lv ne o = absurd (both-ways (bit 18446744073709551615 v) o (bit-full v (omega arith)))

@@ -5,11 +5,14 @@ ghost use Prim.Native.Nat.{ℕ, _+_, _<_, _≤_};
 ghost use lib.ListN.{length, replicate};
 ghost use Rattle.graphs.specs.Rows.{bit, row-of};
 ghost use Rattle.placements.specs.Agreement.{agrees-if};
-ghost use Rattle.consistency.specs.Support.{SupportGreatest, SupportedBut, Greatest, any-of, revised};
+ghost use Rattle.consistency.specs.Support.{SupportGreatest, SupportedBut, Greatest, AllOrNone, any-of, revised, support-meaning};
 ghost use Rattle.consistency.specs.Rooms.{RoomsHold};
 ghost use Rattle.consistency.specs.Cut.{CutTo};
-ghost use Rattle.filters.specs.Filter.{all-below, pair-count, shaped};
+ghost use Rattle.filters.specs.Filter.{all-below, pair-count, shaped, Counted};
+use filters::Counts;
+use filters::Filter;
 use filters::empty_rows;
+use filters::well_shaped;
 use graphs::Source;
 use placements::agreeing;
 
@@ -178,4 +181,52 @@ fn settle<A: Source, R: Source>(arrangement: &A, room: &R, strict: bool, first: 
         }
     }
     taken + clear(rows)
+}
+
+// Settles the rows against those of the units in `changed`, and counts. Rows of another shape are left alone.
+fn settle_shaped<A: Source, R: Source>(
+    arrangement: &A,
+    room: &R,
+    strict: bool,
+    changed: u64,
+    rows: &mut [u64],
+) -> Counts
+    ensures counts { λ k. ⌜ Counted (now (rows .entry)) (now (rows .exit)) k ⌝ }
+    ensures greatest { λ _. ⌜ (shaped (A·Source .graph (now (arrangement .entry))) (R·Source .graph (now (room .entry))) (now (rows .entry)) ≡ true → SupportedBut (A·Source .graph (now (arrangement .entry))) (R·Source .graph (now (room .entry))) strict changed (now (rows .entry)) → Greatest (A·Source .graph (now (arrangement .entry))) (R·Source .graph (now (room .entry))) strict (now (rows .entry)) (now (rows .exit))) ⌝ }
+    ensures ill { λ _. ⌜ (shaped (A·Source .graph (now (arrangement .entry))) (R·Source .graph (now (room .entry))) (now (rows .entry)) ≡ false → now (rows .exit) ≡ now (rows .entry)) ⌝ }
+{
+    if !well_shaped(arrangement, room, rows) {
+        return Counts { taken: 0, empty: empty_rows(rows) };
+    }
+    let taken = settle(arrangement, room, strict, changed, rows);
+    Counts { taken, empty: empty_rows(rows) }
+}
+
+// Leaves the greatest rows inside the shown ones whose every pair has an agreeing pair at every other unit, and answers how many
+// pairs it took away and how many rows are empty. Rows of another shape are left alone.
+pub fn keep_supported<A: Source, R: Source>(arrangement: &A, room: &R, strict: bool, rows: &mut [u64]) -> Counts
+    ensures rows { λ _. ⌜ now (rows .exit) ≡ support-meaning (A·Source .graph (now (arrangement .entry))) (R·Source .graph (now (room .entry))) strict (now (rows .entry)) ⌝ }
+    ensures counts { λ k. ⌜ Counted (now (rows .entry)) (now (rows .exit)) k ⌝ }
+    ensures greatest { λ _. ⌜ (shaped (A·Source .graph (now (arrangement .entry))) (R·Source .graph (now (room .entry))) (now (rows .entry)) ≡ true → Greatest (A·Source .graph (now (arrangement .entry))) (R·Source .graph (now (room .entry))) strict (now (rows .entry)) (now (rows .exit))) ⌝ }
+    ensures emptied { λ _. ⌜ (shaped (A·Source .graph (now (arrangement .entry))) (R·Source .graph (now (room .entry))) (now (rows .entry)) ≡ true → AllOrNone (now (rows .exit))) ⌝ }
+    ensures ill { λ _. ⌜ (shaped (A·Source .graph (now (arrangement .entry))) (R·Source .graph (now (room .entry))) (now (rows .entry)) ≡ false → now (rows .exit) ≡ now (rows .entry)) ⌝ }
+{
+    settle_shaped(arrangement, room, strict, u64::MAX, rows)
+}
+
+// Arc consistency as a filter.
+#[derive(Clone, Copy)]
+pub struct ArcConsistency;
+
+pub impl Filter for ArcConsistency as ArcConsistencyFilter {
+    ghost left = { λ _. support-meaning };
+
+    fn apply<A: Source, R: Source>(&self, arrangement: &A, room: &R, strict: bool, rows: &mut [u64]) -> Counts {
+        keep_supported(arrangement, room, strict, rows)
+    }
+
+    // Rows that were left before have their supports at every unit whose row is as it was.
+    fn resume<A: Source, R: Source>(&self, arrangement: &A, room: &R, strict: bool, changed: u64, rows: &mut [u64]) -> Counts {
+        settle_shaped(arrangement, room, strict, changed, rows)
+    }
 }
