@@ -4,9 +4,10 @@ use mathlib.Core.Bool.{Bool, true, false, _&&_, _||_, not, cond}
 use mathlib.Core.List.{List, [], _∷_}
 use mathlib.Core.Logic.{_⊎_, inl, inr}
 use Prim.Native.Nat.{ℕ, zero, suc, _+_, _-_, _*_, _/_, _%_, _^_, _≤_, _<_}
+use native.Mathlib.Nat.{pow-succ'}
 use native.Mathlib.Omega.{arith}
 use lib.Bits.{bitAnd, bitOr, and-le-l}
-use lib.Count.{ones, trailingZeros}
+use lib.Count.{ones, ones-step, trailingZeros}
 use lib.Dec.{eqb}
 use lib.ListN.{length, getD, set, length-set}
 use lib.Seq.{getD-set-same, getD-set-other}
@@ -17,7 +18,7 @@ use Rattle.graphs.proofs.Bits.{bit-none, bit-and, bit-or, bit-one, bit-lowest, 
 use Rattle.graphs.proofs.Rows.{bit-all}
 use Rattle.filters.specs.Filter.{Inside, pair-count, all-below}
 use Rattle.filters.proofs.Shapes.{all-below-at}
-use Rattle.filters.proofs.Counting.{ones-mono, ones-same, below-pow, pair-count-mono}
+use Rattle.filters.proofs.Counting.{Part, inside-half, low-inside, ones-zero, ones-same, below-pow}
 use Rattle.consistency.specs.declared.Cut.{Cut}
 use Rattle.consistency.specs.Cut.{CutTo, SomeEmpty}
 use Rattle.consistency.proofs.Lowest.{lowest-off}
@@ -35,6 +36,23 @@ pub record Cutting (units keep : ℕ) (before : List ℕ) (rest : ℕ) (rows : L
   pub only : (u : ℕ) → bit changed u ≡ true → bit units u ≡ true
   pub counted : taken + pair-count rows ≡ pair-count before
   pub still : taken ≡ 0 → changed ≡ 0
+
+-- the bays of y that are not in x
+ones-minus-k : (k x y : ℕ) → y < 2 ^ k → x ≤ y → Part x y → ones (y - x) + ones x ≡ ones y
+ones-minus-k zero x y l le h =
+    let z : x ≡ 0 = omega arith in
+    let w : y ≡ 0 = omega arith in
+    let e : y - x ≡ 0 = omega arith in
+    omega (arith, ap ones z, ap ones w, ap ones e, ones-zero)
+ones-minus-k (suc k) x y l le h =
+    let lo = low-inside x y h in
+    let e : (y - x) / 2 ≡ y / 2 - x / 2 = omega arith in
+    let i = ones-minus-k k (x / 2) (y / 2) (omega (arith, pow-succ' 2 k)) (omega arith) (inside-half x y h) in
+    omega (arith, ones-step x, ones-step y, ones-step (y - x), ap ones e)
+
+ones-minus : (row keep : ℕ) → ones (row - bitAnd row keep) + ones (bitAnd row keep) ≡ ones row
+ones-minus row keep =
+    ones-minus-k row (bitAnd row keep) row (below-pow row) (and-le-l row keep) (λ b t. and-parts (bit row b) (bit keep b) (sym (bit-and row keep b) ∙ t) .0)
 
 -- a unit more in the set
 pub bit-more : (x u w : ℕ) → u < 64 → bit (bitOr x ((1 * 2 ^ u) % 18446744073709551616)) w ≡ (bit x w || eqb u w)
@@ -91,9 +109,6 @@ module _ (units keep : ℕ) (before : List ℕ) where
         ]
       ]
 
-  pub row-less : (rows : List ℕ) (u : ℕ) → ones (bitAnd (getD rows u 0) keep) ≤ ones (getD rows u 0)
-  row-less rows u = ones-mono (bitAnd (getD rows u 0) keep) (getD rows u 0) (λ b t. and-parts (bit (getD rows u 0) b) (bit keep b) (sym (bit-and (getD rows u 0) keep b) ∙ t) .0)
-
   -- the row of the lowest unit is inside `keep` already
   pub cutting-pass : (rest changed taken : ℕ) (rows : List ℕ) → Now rest rows changed taken → 0 < rest
       → bitAnd (getD rows (trailingZeros 64 rest) 0) keep ≡ getD rows (trailingZeros 64 rest) 0 → Now (next rest) rows changed taken
@@ -120,7 +135,7 @@ module _ (units keep : ℕ) (before : List ℕ) where
   pub cutting-step : (rest changed taken : ℕ) (rows : List ℕ) → Now rest rows changed taken → 0 < rest → ((u : ℕ) → bit units u ≡ true → u < length before)
       → (bitAnd (getD rows (trailingZeros 64 rest) 0) keep ≡ getD rows (trailingZeros 64 rest) 0 → ⊥)
       → Now (next rest) (set rows (trailingZeros 64 rest) (bitAnd (getD rows (trailingZeros 64 rest) 0) keep))
-      (bitOr changed ((1 * 2 ^ trailingZeros 64 rest) % 18446744073709551616)) (taken + (ones (getD rows (trailingZeros 64 rest) 0) - ones (bitAnd (getD rows (trailingZeros 64 rest) 0) keep)))
+      (bitOr changed ((1 * 2 ^ trailingZeros 64 rest) % 18446744073709551616)) (taken + ones (getD rows (trailingZeros 64 rest) 0 - bitAnd (getD rows (trailingZeros 64 rest) 0) keep))
   cutting-step rest changed taken rows h l w ne =
       let f = h .fits in
       let lt = lowest-here rest changed taken rows h w l .0 in
@@ -129,7 +144,7 @@ module _ (units keep : ℕ) (before : List ℕ) where
       let row : ℕ = getD rows v 0 in
       let x : ℕ = bitAnd row keep in
       let parts : (b : ℕ) → bit x b ≡ true → (bit row b ≡ true) × (bit keep b ≡ true) = λ b t. and-parts (bit row b) (bit keep b) (sym (bit-and row keep b) ∙ t) in
-      let less : ones x ≤ ones row = row-less rows v in
+      let less : ones (row - x) + ones x ≡ ones row = ones-minus row keep in
       let here : getD (set rows v x) v 0 ≡ x = getD-set-same rows v x 0 ll in
       let set-here : (u b : ℕ) → u ≡ v → bit (getD (set rows v x) u 0) b ≡ bit x b = λ u b z. ap (λ (w : ℕ). bit (getD (set rows v x) w 0) b) z ∙ ap (λ (y : ℕ). bit y b) here in
       let set-there : (u b : ℕ) → (u ≡ v → ⊥) → bit (getD (set rows v x) u 0) b ≡ bit (getD rows u 0) b = λ u b nz. ap (λ (y : ℕ). bit y b) (getD-set-other rows v u x 0 nz) in
@@ -167,7 +182,7 @@ module _ (units keep : ℕ) (before : List ℕ) where
   -- the pairs taken away were among those there
   pub step-few : (rest changed taken : ℕ) (rows : List ℕ) → Now rest rows changed taken → 0 < rest → ((u : ℕ) → bit units u ≡ true → u < length before)
       → (bitAnd (getD rows (trailingZeros 64 rest) 0) keep ≡ getD rows (trailingZeros 64 rest) 0 → ⊥) → pair-count before ≤ 1536
-      → taken + (ones (getD rows (trailingZeros 64 rest) 0) - ones (bitAnd (getD rows (trailingZeros 64 rest) 0) keep)) ≤ 1536
+      → taken + ones (getD rows (trailingZeros 64 rest) 0 - bitAnd (getD rows (trailingZeros 64 rest) 0) keep) ≤ 1536
   step-few rest changed taken rows h l w ne f = omega (arith, cutting-step rest changed taken rows h l w ne .counted)
 
   -- all rows are cut

@@ -3,58 +3,20 @@ use mathlib.Core.Path.{_≡_, refl, sym, ap, subst, _∙_}
 use mathlib.Core.Bool.{Bool, true, false, _&&_, _||_, not}
 use mathlib.Core.Logic.{_⊎_, inl, inr}
 use Prim.Native.Nat.{ℕ, zero, suc, _+_, _-_, _*_, _/_, _%_, _^_, _≤_, _<_}
-use native.Mathlib.Nat.{pow-succ'}
 use native.Mathlib.Omega.{arith}
-use lib.Bits.{bitAnd, and-le-r}
-use lib.Count.{ones, ones-step, trailingZeros}
+use lib.Bits.{bitAnd, and-le-l, and-le-r}
+use lib.Count.{trailingZeros}
 use lib.Dec.{eqb, ltb}
 use lib.Pow.{shr-le}
 use Rattle.std.proofs.shelf.Tests.{both-ways, eqb-true, eq-eqb, ne-eqb, lt-ltb, ltb-true, cases-lt, cases-eq, cases-bool, and-parts, and-from, and-right, not-true, not-from-false}
 use Rattle.graphs.specs.Rows.{bit, row-of}
 use Rattle.graphs.specs.Graph.{Graph}
-use Rattle.graphs.proofs.Bits.{bit-none, digit-cases, bit-zero, bit-suc, bit-and, bit-lowest, self-below}
+use Rattle.graphs.proofs.Bits.{bit-none, bit-and, bit-lowest}
 use Rattle.graphs.proofs.Rows.{bit-all, all-but, row-is}
 use Rattle.placements.specs.Agreement.{agrees-if}
-use Rattle.filters.proofs.Counting.{ones-zero}
 use Rattle.consistency.specs.Support.{any-of}
 use Rattle.consistency.proofs.Theory.{bool-ext, any-has, any-some}
-
-pub ones-pos : (c x : ℕ) → bit x c ≡ true → 1 ≤ ones x
-ones-pos zero x e = omega (arith, ones-step x, eqb-true (x % 2) 1 (sym (bit-zero x) ∙ e))
-ones-pos (suc c) x e = let h = ones-pos c (x / 2) (sym (bit-suc x c) ∙ e) in omega (arith, ones-step x)
-
-pub ones-lone : (b c x : ℕ) → ones x ≤ 1 → bit x b ≡ true → bit x c ≡ true → b ≡ c
-ones-lone zero zero x l e d = refl
-ones-lone zero (suc c) x l e d = absurd (omega (arith, ones-step x, eqb-true (x % 2) 1 (sym (bit-zero x) ∙ e), ones-pos c (x / 2) (sym (bit-suc x c) ∙ d)))
-ones-lone (suc b) zero x l e d = absurd (omega (arith, ones-step x, eqb-true (x % 2) 1 (sym (bit-zero x) ∙ d), ones-pos b (x / 2) (sym (bit-suc x b) ∙ e)))
-ones-lone (suc b) (suc c) x l e d = ap suc (ones-lone b c (x / 2) (omega (arith, ones-step x)) (sym (bit-suc x b) ∙ e) (sym (bit-suc x c) ∙ d))
-
-pub some-bit : (x : ℕ) → 1 ≤ ones x → bit x (trailingZeros x x) ≡ true
-some-bit x l =
-    elim (cases-lt 0 x) [
-      | inl h ↦ bit-lowest x x h (self-below x)
-      | inr h ↦ absurd (let z : x ≡ 0 = omega arith in omega (arith, ap ones z, ones-zero))
-    ]
-
-pub record Two (x : ℕ) : Type 0 where
-  pub low : ℕ
-  pub high : ℕ
-  pub apart : low < high
-  pub low-in : bit x low ≡ true
-  pub high-in : bit x high ≡ true
-
-two-k : (k x : ℕ) → x < 2 ^ k → 2 ≤ ones x → Two x
-two-k zero x l h = absurd (let z : x ≡ 0 = omega arith in omega (arith, ap ones z, ones-zero))
-two-k (suc k) x l h =
-    elim (digit-cases (x % 2) (omega arith)) [
-      | inl z ↦ let q = two-k k (x / 2) (omega (arith, pow-succ' 2 k)) (omega (arith, ones-step x)) in
-          record { low = suc (q .low); high = suc (q .high); apart = omega (arith, q .apart); low-in = bit-suc x (q .low) ∙ q .low-in; high-in = bit-suc x (q .high) ∙ q .high-in }
-      | inr z ↦ let e = some-bit (x / 2) (omega (arith, ones-step x)) in
-          record { low = 0; high = suc (trailingZeros (x / 2) (x / 2)); apart = omega arith; low-in = bit-zero x ∙ eq-eqb (x % 2) 1 z; high-in = bit-suc x (trailingZeros (x / 2) (x / 2)) ∙ e }
-    ]
-
-pub two-bits : (x : ℕ) → 2 ≤ ones x → Two x
-two-bits x h = two-k x x (self-below x) h
+use Rattle.consistency.proofs.Lowest.{lowest-off}
 
 module _ (r : Graph) (few : r .count ≤ 64) (row : ℕ) where
   abbrev all : ℕ
@@ -93,22 +55,38 @@ module _ (r : Graph) (few : r .count ≤ 64) (row : ℕ) where
         apart = λ z. both-ways (eqb b (q .at)) (not-true (eqb b (q .at)) (and-parts (not (eqb b (q .at))) true (q .passes) .0)) (eq-eqb b (q .at) z);
       }
 
-  pub lone-none : ones held ≡ 0 → 0 ≡ row-of (r .count) (λ b. any-of row (r .count) (agrees-if r false false false b))
+  held-fits : held < 2 ^ 64
+  held-fits = omega (arith, and-le-r row all, shr-le 18446744073709551615 (64 - r .count))
+
+  pub lone-none : held ≡ 0 → 0 ≡ row-of (r .count) (λ b. any-of row (r .count) (agrees-if r false false false b))
   lone-none z = row-is (r .count) 0 differs
       (λ b. bit-none b ∙ sym (and-right (ltb b (r .count)) (differs b)
       (elim (cases-bool (differs b)) [
-        | inl e ↦ absurd (let q = differs-some b e in omega (arith, ones-pos (q .at) held (q .inside)))
+        | inl e ↦ absurd (let q = differs-some b e in both-ways (bit held (q .at)) (ap (λ (x : ℕ). bit x (q .at)) z ∙ bit-none (q .at)) (q .inside))
         | inr e ↦ e
       ])))
 
-  pub lone-one : ones held ≡ 1 → bitAnd all (18446744073709551615 - held) ≡ row-of (r .count) (λ b. any-of row (r .count) (agrees-if r false false false b))
-  lone-one z =
-      let c : ℕ = trailingZeros held held in
-      let e : bit held c ≡ true = some-bit held (omega arith) in
-      all-but (r .count) held differs few (omega (arith, and-le-r row all, shr-le 18446744073709551615 (64 - r .count)))
+  -- the row without its lowest bay
+  abbrev others : ℕ
+  others = bitAnd held (held - 1)
+
+  -- every bay is the lowest
+  lone-at : 0 < held → others ≡ 0 → (b : ℕ) → bit held b ≡ true → b ≡ trailingZeros 64 held
+  lone-at l z b t =
+      elim (cases-eq b (trailingZeros 64 held)) [
+        | inl e ↦ e
+        | inr ne ↦ absurd (both-ways (bit others b) (ap (λ (x : ℕ). bit x b) z ∙ bit-none b)
+            (lowest-off 64 held l held-fits b ∙ and-from (bit held b) (not (eqb b (trailingZeros 64 held))) t (not-from-false (eqb b (trailingZeros 64 held)) (ne-eqb b (trailingZeros 64 held) ne))))
+      ]
+
+  pub lone-one : 0 < held → others ≡ 0 → bitAnd all (18446744073709551615 - held) ≡ row-of (r .count) (λ b. any-of row (r .count) (agrees-if r false false false b))
+  lone-one l z =
+      let c : ℕ = trailingZeros 64 held in
+      let e : bit held c ≡ true = bit-lowest 64 held l held-fits in
+      all-but (r .count) held differs few held-fits
       (λ b. bool-ext (bit held b) (not (differs b))
       (λ t. elim (cases-bool (differs b)) [
-        | inl d ↦ absurd (let q = differs-some b d in q .apart (ones-lone b (q .at) held (omega arith) t (q .inside)))
+        | inl d ↦ absurd (let q = differs-some b d in q .apart (lone-at l z b t ∙ sym (lone-at l z (q .at) (q .inside))))
         | inr d ↦ not-from-false (differs b) d
       ])
       (λ t. elim (cases-eq b c) [
@@ -116,14 +94,17 @@ module _ (r : Graph) (few : r .count ≤ 64) (row : ℕ) where
         | inr ny ↦ absurd (both-ways (differs b) (not-true (differs b) t) (differs-from b c e ny))
       ]))
 
-  pub lone-more : 2 ≤ ones held → all ≡ row-of (r .count) (λ b. any-of row (r .count) (agrees-if r false false false b))
-  lone-more l =
-      let t = two-bits held l in
+  pub lone-more : 0 < held → 0 < others → all ≡ row-of (r .count) (λ b. any-of row (r .count) (agrees-if r false false false b))
+  lone-more l m =
+      let low : ℕ = trailingZeros 64 held in
+      let high : ℕ = trailingZeros 64 others in
+      let o : bit others high ≡ true = bit-lowest 64 others m (omega (arith, and-le-l held (held - 1), held-fits)) in
+      let p = and-parts (bit held high) (not (eqb high low)) (sym (lowest-off 64 held l held-fits high) ∙ o) in
       row-is (r .count) all differs
       (λ b. bit-all (r .count) b few ∙ last (ltb b (r .count)) (differs b)
-      (elim (cases-eq b (t .low)) [
-        | inl y ↦ differs-from b (t .high) (t .high-in) (λ z. let a = t .apart in omega arith)
-        | inr ny ↦ differs-from b (t .low) (t .low-in) ny
+      (elim (cases-eq b low) [
+        | inl y ↦ differs-from b high (p .0) (λ z. both-ways (eqb high low) (not-true (eqb high low) (p .1)) (eq-eqb high low (sym z ∙ y)))
+        | inr ny ↦ differs-from b low (bit-lowest 64 held l held-fits) ny
       ]))
     where
       last : (s t : Bool) → t ≡ true → s ≡ (s && t)

@@ -9,7 +9,7 @@ use lib.Bits.{bitAnd, bitOr}
 use lib.Count.{trailingZeros, under}
 use lib.Dec.{eqb, ltb}
 use lib.Pow.{pow-mono}
-use Rattle.std.proofs.shelf.Tests.{false≢true, eqb-true, eq-eqb, ne-eqb, lt-ltb, ltb-true, cases-eq, cases-bool, and-parts, and-from, and-left, and-right, or-cases, or-left, or-right, not-from-false}
+use Rattle.std.proofs.shelf.Tests.{both-ways, false≢true, eqb-true, eq-eqb, ne-eqb, lt-ltb, ltb-true, cases-eq, cases-bool, and-parts, and-from, and-left, and-right, or-cases, or-left, or-right, not-from-false}
 use Rattle.std.proofs.shelf.Ways.{tells}
 use Rattle.graphs.specs.Rows.{bit, row-of}
 use Rattle.graphs.specs.Graph.{Graph}
@@ -57,13 +57,17 @@ lowest-off (suc k) x l h c =
         ∙ ap (λ (t : Bool). bit x (suc d) && not t) (let e : eqb d (trailingZeros k (x / 2)) ≡ eqb (suc d) (suc (trailingZeros k (x / 2))) = grind (arith, tells) in e)
 
 any-eq : (x y n : ℕ) (p : ℕ → Bool) → ((c : ℕ) → c < n → bit x c ≡ bit y c) → any-of x n p ≡ any-of y n p
-any-eq x y zero p e = refl
-any-eq x y (suc n) p e =
-    ap (λ (t : Bool). (t && p n) || any-of x n p) (e n (omega arith)) ∙ ap (λ (t : Bool). (bit y n && p n) || t) (any-eq x y n p (λ c l. e c (omega arith)))
+any-eq x y n p e =
+    bool-ext (any-of x n p) (any-of y n p)
+    (λ t. let q = any-some x n p t in any-has y n p (q .at) (q .under) (sym (e (q .at) (q .under)) ∙ q .held) (q .passes))
+    (λ t. let q = any-some y n p t in any-has x n p (q .at) (q .under) (e (q .at) (q .under) ∙ q .held) (q .passes))
 
 any-none : (n : ℕ) (p : ℕ → Bool) → any-of 0 n p ≡ false
-any-none zero p = refl
-any-none (suc n) p = ap (λ (t : Bool). (t && p n) || any-of 0 n p) (bit-none n) ∙ any-none n p
+any-none n p =
+    elim (cases-bool (any-of 0 n p)) [
+      | inl t ↦ absurd (let q = any-some 0 n p t in both-ways (bit 0 (q .at)) (bit-none (q .at)) (q .held))
+      | inr f ↦ f
+    ]
 
 abbrev mask : ℕ → ℕ
 mask n = 18446744073709551615 / 2 ^ (64 - n)

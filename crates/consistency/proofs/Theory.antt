@@ -9,6 +9,8 @@ use lib.Dec.{eqb, ltb}
 use lib.ListN.{length, getD}
 use Rattle.std.proofs.shelf.Counted.{length-map-counting, getD-map-counting}
 use Rattle.std.proofs.shelf.Lists.{ext-getD}
+use Rattle.std.specs.Orderings.{Decides}
+use Rattle.std.proofs.shelf.Ways.{decides-eqb, decides-or}
 use Rattle.std.proofs.shelf.Tests.{both-ways, false≢true, eqb-true, eqb-false, lt-ltb, eq-eqb, cases-eq, cases-bool, and-parts, and-from, or-cases, or-left, or-right, cond-true, cond-false}
 use Rattle.graphs.specs.Rows.{bit, pairs, row-of}
 use Rattle.graphs.specs.Graph.{Graph, Sound}
@@ -16,6 +18,7 @@ use Rattle.graphs.proofs.Bits.{bit-none, bit-and, bits-below, same-rows}
 use Rattle.graphs.proofs.Rows.{bit-row-of}
 use Rattle.placements.specs.Agreement.{agrees}
 use Rattle.placements.proofs.Masks.{bit-full}
+use Rattle.placements.proofs.Deciding.{each-decides, some-decides, decides-itself}
 use Rattle.placements.specs.Placement.{Placement, Within}
 use Rattle.filters.specs.Filter.{shaped, pair-count, Inside, Lawful, Meaning, CutFrom}
 use Rattle.filters.specs.Composed.{repeat, repeat-meaning}
@@ -31,47 +34,38 @@ bool-ext false false f g = refl
 
 -- some bay passes
 
-pub any-has : (row n : ℕ) (p : ℕ → Bool) (c : ℕ) → c < n → bit row c ≡ true → p c ≡ true → any-of row n p ≡ true
-any-has row zero p c l h e = absurd (omega arith)
-any-has row (suc n) p c l h e =
-    elim (cases-eq c n) [
-      | inl z ↦ or-left (bit row n && p n) (any-of row n p) (and-from (bit row n) (p n) (subst (λ (k : ℕ). bit row k ≡ true) z h) (subst (λ (k : ℕ). p k ≡ true) z e))
-      | inr ne ↦ or-right (bit row n && p n) (any-of row n p) (any-has row n p c (omega arith) h e)
-    ]
-
 pub record Some (row n : ℕ) (p : ℕ → Bool) : Type 0 where
   pub at : ℕ
   pub under : at < n
   pub held : bit row at ≡ true
   pub passes : p at ≡ true
 
+any-decides : (row n : ℕ) (p : ℕ → Bool) → Decides (any-of row n p) ((c : ℕ) × (c < n) × ((bit row c && p c) ≡ true))
+any-decides row n p = some-decides (λ c. bit row c && p c) (λ c. (bit row c && p c) ≡ true) (λ c. decides-itself (bit row c && p c)) n
+
+pub any-has : (row n : ℕ) (p : ℕ → Bool) (c : ℕ) → c < n → bit row c ≡ true → p c ≡ true → any-of row n p ≡ true
+any-has row n p c l h e = any-decides row n p .1 (c, l, and-from (bit row c) (p c) h e)
+
 pub any-some : (row n : ℕ) (p : ℕ → Bool) → any-of row n p ≡ true → Some row n p
-any-some row zero p e = absurd (false≢true e)
-any-some row (suc n) p e =
-    elim (or-cases (bit row n && p n) (any-of row n p) e) [
-      | inl t ↦ let q = and-parts (bit row n) (p n) t in record { at = n; under = omega arith; held = q .0; passes = q .1 }
-      | inr t ↦ let q = any-some row n p t in record { at = q .at; under = omega (arith, q .under); held = q .held; passes = q .passes }
-    ]
+any-some row n p e =
+    let q = any-decides row n p .0 e in
+    let s = and-parts (bit row (q .0)) (p (q .0)) (q .2) in
+    record { at = q .0; under = q .1; held = s .0; passes = s .1 }
 
 module _ (a r : Graph) (k : Bool) where
   abbrev agreeing : List ℕ → ℕ → ℕ → ℕ → Bool
   agreeing rows u b v = any-of (getD rows v 0) (r .count) (agrees a r k u b v)
 
+  each-agrees : (rows : List ℕ) (u b m : ℕ) → Decides (supported-by a r k rows u b m) ((v : ℕ) → v < m → (u ≡ v) ⊎ (agreeing rows u b v ≡ true))
+  each-agrees rows u b m =
+      each-decides (λ v. eqb u v || agreeing rows u b v) (λ v. (u ≡ v) ⊎ (agreeing rows u b v ≡ true))
+      (λ v. decides-or (eqb u v) (agreeing rows u b v) (decides-eqb u v) (decides-itself (agreeing rows u b v))) m
+
   by-each : (rows : List ℕ) (u b m : ℕ) → supported-by a r k rows u b m ≡ true → (v : ℕ) → v < m → (u ≡ v → ⊥) → agreeing rows u b v ≡ true
-  by-each rows u b zero e v l ne = absurd (omega arith)
-  by-each rows u b (suc w) e v l ne =
-      let q = and-parts (eqb u w || agreeing rows u b w) (supported-by a r k rows u b w) e in
-      elim (cases-eq v w) [
-        | inl z ↦ subst (λ (x : ℕ). agreeing rows u b x ≡ true) (sym z) (elim (or-cases (eqb u w) (agreeing rows u b w) (q .0)) [ inl t ↦ absurd (ne (eqb-true u w t ∙ sym z)) | inr t ↦ t ])
-        | inr nz ↦ by-each rows u b w (q .1) v (omega arith) ne
-      ]
+  by-each rows u b m e v l ne = elim (each-agrees rows u b m .0 e v l) [ inl z ↦ absurd (ne z) | inr t ↦ t ]
 
   by-all : (rows : List ℕ) (u b m : ℕ) → ((v : ℕ) → v < m → (u ≡ v → ⊥) → agreeing rows u b v ≡ true) → supported-by a r k rows u b m ≡ true
-  by-all rows u b zero h = refl
-  by-all rows u b (suc w) h =
-      and-from (eqb u w || agreeing rows u b w) (supported-by a r k rows u b w)
-      (elim (cases-eq u w) [ inl z ↦ or-left (eqb u w) (agreeing rows u b w) (eq-eqb u w z) | inr ne ↦ or-right (eqb u w) (agreeing rows u b w) (h w (omega arith) ne) ])
-      (by-all rows u b w (λ v l ne. h v (omega arith) ne))
+  by-all rows u b m h = each-agrees rows u b m .1 (λ v l. elim (cases-eq u v) [ inl z ↦ inl z | inr ne ↦ inr (h v l ne) ])
 
   swept-bit : (rows : List ℕ) (u b : ℕ) → u < length rows → bit (getD (swept a r k rows) u 0) b ≡ (bit (getD rows u 0) b && (ltb b (r .count) && supported-by a r k rows u b (a .count)))
   swept-bit rows u b l =

@@ -2,7 +2,7 @@
 use mathlib.Core.Path.{_≡_}
 use mathlib.Core.Bool.{Bool, true, false, _&&_, _||_, cond}
 use mathlib.Core.List.{List, map}
-use Prim.Native.Nat.{ℕ, zero, suc, _<_}
+use Prim.Native.Nat.{ℕ, _<_}
 use lib.Bits.{bitAnd}
 use lib.Dec.{eqb}
 use lib.ListN.{length, getD}
@@ -10,6 +10,7 @@ use Rattle.std.specs.Iters.{counting}
 use Rattle.graphs.specs.Rows.{bit, pairs, row-of}
 use Rattle.graphs.specs.Graph.{Graph}
 use Rattle.placements.specs.Agreement.{agrees-if, agrees}
+use Rattle.placements.specs.Tests.{each-below, some-below}
 use Rattle.filters.specs.Filter.{Meaning, Inside, shaped}
 use Rattle.filters.specs.Composed.{repeat-meaning}
 
@@ -45,8 +46,7 @@ AllOrNone rows = (u v : ℕ) → u < length rows → getD rows u 0 ≡ 0 → get
 
 -- some bay of the row, below n, passes
 abbrev pub any-of : ℕ → ℕ → (ℕ → Bool) → Bool
-any-of row zero p = false
-any-of row (suc n) p = (bit row n && p n) || any-of row n p
+any-of row n p = some-below n (λ c. bit row c && p c)
 
 -- the bays of the row that agree with some bay of the other row: `out` says whether the first unit is joined to the second,
 -- `back` whether the second is joined to the first
@@ -56,9 +56,8 @@ revised r out back strict row other =
 
 -- each of the first m units other than u has in its row a bay that agrees with (u, b)
 abbrev pub supported-by : Graph → Graph → Bool → List ℕ → ℕ → ℕ → ℕ → Bool
-supported-by a r strict rows u b zero = true
-supported-by a r strict rows u b (suc v) =
-    (eqb u v || any-of (getD rows v 0) (r .count) (agrees a r strict u b v)) && supported-by a r strict rows u b v
+supported-by a r strict rows u b m =
+    each-below m (λ v. eqb u v || any-of (getD rows v 0) (r .count) (agrees a r strict u b v))
 
 -- the bays of u's row that have a support at every other unit
 abbrev pub swept-row : Graph → Graph → Bool → List ℕ → ℕ → ℕ

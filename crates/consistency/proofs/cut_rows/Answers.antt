@@ -2,11 +2,11 @@ use native.Mathlib.Omega.{arith}
 use mathlib.Core.Path.{_≡_, refl, sym, ap, subst, _∙_}
 use mathlib.Core.List.{List}
 use Prim.Native.Nat.{ℕ, _+_, _-_, _*_, _%_, _^_, _≤_, _<_}
-use lib.Bits.{bitAnd, bitOr}
+use lib.Bits.{bitAnd, bitOr, and-le-l}
 use lib.Count.{ones, trailingZeros}
 use lib.ListN.{length, getD, set, length-set}
 use lib.Seq.{getD-set-same}
-use Rattle.consistency.proofs.Cuts.{Cutting, cutting-start, lowest-here, row-less, cutting-pass, cutting-step, step-few, cut-all, cut-short, cutting-as}
+use Rattle.consistency.proofs.Cuts.{Cutting, cutting-start, lowest-here, cutting-pass, cutting-step, step-few, cut-all, cut-short, cutting-as}
 use Rattle.consistency.proofs.cut_rows.Needs as need
 use Rattle.consistency.proofs.cut_rows.Needs.{then-row-old·else-row-eq0, else-row-old}
 
@@ -24,7 +24,7 @@ index-rows-u-then-row-old c =
     (c .loop-rest .inv) (c .pre .within) (omega arith) .1
 
 pub sub-taken : need.sub-taken
-sub-taken c = row-less (c .args .units) (c .args .keep) (c .args .rows .now) (c .loop-rest .rows) (trailingZeros 64 (c .loop-rest .rest))
+sub-taken c = and-le-l (getD (c .loop-rest .rows) (trailingZeros 64 (c .loop-rest .rest)) 0) (c .args .keep)
 
 pub cast-taken : need.cast-taken
 cast-taken c =
@@ -48,7 +48,7 @@ returns-then-row-eq0 c =
     let l : u < length (c .loop-rest .rows) = lowest-here (c .args .units) (c .args .keep) (c .args .rows .now) (c .loop-rest .rest) (c .loop-rest .changed) (c .loop-rest .taken) (c .loop-rest .rows)
     (c .loop-rest .inv) (c .pre .within) (omega arith) .1 in
     cut-short (c .args .units) (c .args .keep) (c .args .rows .now) (bitAnd (c .loop-rest .rest) (c .loop-rest .rest - 1))
-    (bitOr (c .loop-rest .changed) ((1 * 2 ^ u) % 18446744073709551616)) (c .loop-rest .taken + (ones (getD (c .loop-rest .rows) u 0) - ones row)) u (set (c .loop-rest .rows) u row)
+    (bitOr (c .loop-rest .changed) ((1 * 2 ^ u) % 18446744073709551616)) (c .loop-rest .taken + ones (getD (c .loop-rest .rows) u 0 - row)) u (set (c .loop-rest .rows) u row)
     (cutting-step (c .args .units) (c .args .keep) (c .args .rows .now) (c .loop-rest .rest) (c .loop-rest .changed) (c .loop-rest .taken) (c .loop-rest .rows)
     (c .loop-rest .inv) (omega arith) (c .pre .within) (c .if-row-old .taken))
     (omega (arith, length-set (c .loop-rest .rows) u row)) (getD-set-same (c .loop-rest .rows) u row 0 l ∙ c .if-row-eq0 .taken)
