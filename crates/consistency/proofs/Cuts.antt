@@ -113,23 +113,23 @@ module _ (units keep : ℕ) (before : List ℕ) where
   pub cutting-pass : (rest changed taken : ℕ) (rows : List ℕ) → Now rest rows changed taken → 0 < rest
       → bitAnd (getD rows (trailingZeros 64 rest) 0) keep ≡ getD rows (trailingZeros 64 rest) 0 → Now (next rest) rows changed taken
   cutting-pass rest changed taken rows h l e =
-    let f = h .fits in record {
-    many = h .many;
-    fits = next-fits rest f;
-    left = λ u t. h .left u (next-left rest u l f t);
-    inside = h .inside;
-    keeps = h .keeps;
-    cuts = λ u b i o t. elim (next-off rest u l f o) [
-      | inl s ↦ h .cuts u b i s t
-      | inr z ↦
-          let row : ℕ = getD rows (trailingZeros 64 rest) 0 in
-          and-parts (bit row b) (bit keep b) (sym (bit-and row keep b) ∙ (ap (λ (x : ℕ). bit x b) e ∙ (ap (λ (v : ℕ). bit (getD rows v 0) b) (sym z) ∙ t))) .1
-    ];
-    same = h .same;
-    only = h .only;
-    counted = h .counted;
-    still = h .still;
-  }
+      let f = h .fits in record {
+        many = h .many;
+        fits = next-fits rest f;
+        left = λ u t. h .left u (next-left rest u l f t);
+        inside = h .inside;
+        keeps = h .keeps;
+        cuts = λ u b i o t. elim (next-off rest u l f o) [
+          | inl s ↦ h .cuts u b i s t
+          | inr z ↦
+              let row : ℕ = getD rows (trailingZeros 64 rest) 0 in
+              and-parts (bit row b) (bit keep b) (sym (bit-and row keep b) ∙ (ap (λ (x : ℕ). bit x b) e ∙ (ap (λ (v : ℕ). bit (getD rows v 0) b) (sym z) ∙ t))) .1
+        ];
+        same = h .same;
+        only = h .only;
+        counted = h .counted;
+        still = h .still;
+      }
 
   -- it is not: the row is cut
   pub cutting-step : (rest changed taken : ℕ) (rows : List ℕ) → Now rest rows changed taken → 0 < rest → ((u : ℕ) → bit units u ≡ true → u < length before)

@@ -227,12 +227,15 @@ module _ (a r : Graph) (few : r .count ≤ 64) (k : Bool) where
     -- the work list is empty
     pub sweep-end : (rows : List ℕ) (changed taken : ℕ) → Sweeping a r k first shown rows changed taken → changed ≡ 0
         → (taken + pair-count rows ≡ pair-count shown) × (SupportedBut a r k first shown → Greatest a r k shown rows)
-    sweep-end rows changed taken h z = (omega (arith, h .thin .counted), λ p. record {
-      as-many = h .thin .many;
-      inside = h .thin .inside;
-      supported = λ u v lu lv ne. h .but p u v lu lv ne (ap (λ (x : ℕ). bit x v) z ∙ bit-none v);
-      most = λ other i s. h .thin .most other s i;
-    })
+    sweep-end rows changed taken h z = (
+      omega (arith, h .thin .counted),
+      λ p. record {
+        as-many = h .thin .many;
+        inside = h .thin .inside;
+        supported = λ u v lu lv ne. h .but p u v lu lv ne (ap (λ (x : ℕ). bit x v) z ∙ bit-none v);
+        most = λ other i s. h .thin .most other s i;
+      },
+    )
 
     pub sweep-start : (m : ℕ) → Sound r → shaped a r shown ≡ true → m ≡ length shown → Sweeping a r k first shown shown (bitAnd first (18446744073709551615 / 2 ^ (64 - m))) 0
     sweep-start m so e is =

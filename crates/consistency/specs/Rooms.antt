@@ -45,8 +45,9 @@ abbrev pub room : Graph → Graph → Bool → List ℕ → List ℕ → Room
 room a r s xs ys = record { units = a; bays = r; strict = s; shown = xs; left = ys }
 
 -- in order: three units all joined on a ring of four bays, all open; with unit 0 settled; settled and cut to what agrees; three
--- units unjoined with the bays 0 and 1 open; two joined units on two unjoined bays; two unjoined units, one settled, in open and
--- in strict use; two joined units in strict use; rows of another shape; one unit with no bay open
+-- units unjoined with the bays 0 and 1 open; two joined units on two unjoined bays; two unjoined units on two joined bays, one
+-- settled; the same in strict use, all open; two joined units in strict use, one settled; rows of another shape; one unit with
+-- no bay open
 abbrev pub rooms : List Room
 rooms =
     room triangle ring-of-four false (15 ∷ 15 ∷ 15 ∷ []) (15 ∷ 15 ∷ 15 ∷ [])

@@ -87,12 +87,20 @@ fn cut_rows(rows: &mut [u64], units: u64, keep: u64) -> Cut
             rows[u] = row;
             changed |= 1 << u;
             if row == 0 {
-                return Cut { changed, taken, emptied: true };
+                return Cut {
+                    changed,
+                    taken,
+                    emptied: true,
+                };
             }
         }
         rest &= rest - 1;
     }
-    Cut { changed, taken, emptied: false }
+    Cut {
+        changed,
+        taken,
+        emptied: false,
+    }
 }
 
 // Of the `others`, the units that are joined to a unit (are in `from`) or not, as `out` says, and that it is joined to (are in
@@ -120,7 +128,11 @@ fn cut_class<R: Source>(
     requires few { ⌜ pair-count (now rows) ≤ 1536 ⌝ }
     ensures { λ k. ⌜ CutTo units (revised (R·Source .graph (now (room .entry))) out back strict 18446744073709551615 other) (now (rows .entry)) (now (rows .exit)) k ⌝ }
 {
-    let nothing = Cut { changed: 0, taken: 0, emptied: false };
+    let nothing = Cut {
+        changed: 0,
+        taken: 0,
+        emptied: false,
+    };
     if units == 0 {
         return nothing;
     }
@@ -145,9 +157,16 @@ fn clear(rows: &mut [u64]) -> usize
     taken
 }
 
-// Takes away pairs without support until each has one, and says how many. The rows are checked against those of the units in the
-// work list `changed` only; where each pair has its supports at all others, what is left is the greatest supported rows.
-fn settle<A: Source, R: Source>(arrangement: &A, room: &R, strict: bool, first: u64, rows: &mut [u64]) -> usize
+// Takes away pairs without support until each has one, and says how many. The work list `changed` holds the units whose rows the
+// others must still be checked against. It begins with those in `first`; where each pair has its supports at the units outside
+// `first`, what is left is the greatest supported rows.
+fn settle<A: Source, R: Source>(
+    arrangement: &A,
+    room: &R,
+    strict: bool,
+    first: u64,
+    rows: &mut [u64],
+) -> usize
     requires { ⌜ shaped (A·Source .graph (now arrangement)) (R·Source .graph (now room)) (now rows) ≡ true ⌝ }
     ensures taken { λ n. ⌜ n + pair-count (now (rows .exit)) ≡ pair-count (now (rows .entry)) ⌝ }
     ensures greatest { λ _. ⌜ (SupportedBut (A·Source .graph (now (arrangement .entry))) (R·Source .graph (now (room .entry))) strict first (now (rows .entry)) → Greatest (A·Source .graph (now (arrangement .entry))) (R·Source .graph (now (room .entry))) strict (now (rows .entry)) (now (rows .exit))) ⌝ }
@@ -196,15 +215,26 @@ fn settle_shaped<A: Source, R: Source>(
     ensures ill { λ _. ⌜ (shaped (A·Source .graph (now (arrangement .entry))) (R·Source .graph (now (room .entry))) (now (rows .entry)) ≡ false → now (rows .exit) ≡ now (rows .entry)) ⌝ }
 {
     if !well_shaped(arrangement, room, rows) {
-        return Counts { taken: 0, empty: empty_rows(rows) };
+        return Counts {
+            taken: 0,
+            empty: empty_rows(rows),
+        };
     }
     let taken = settle(arrangement, room, strict, changed, rows);
-    Counts { taken, empty: empty_rows(rows) }
+    Counts {
+        taken,
+        empty: empty_rows(rows),
+    }
 }
 
 // Leaves the greatest rows inside the shown ones whose every pair has an agreeing pair at every other unit, and answers how many
 // pairs it took away and how many rows are empty. Rows of another shape are left alone.
-pub fn keep_supported<A: Source, R: Source>(arrangement: &A, room: &R, strict: bool, rows: &mut [u64]) -> Counts
+pub fn keep_supported<A: Source, R: Source>(
+    arrangement: &A,
+    room: &R,
+    strict: bool,
+    rows: &mut [u64],
+) -> Counts
     ensures rows { λ _. ⌜ now (rows .exit) ≡ support-meaning (A·Source .graph (now (arrangement .entry))) (R·Source .graph (now (room .entry))) strict (now (rows .entry)) ⌝ }
     ensures counts { λ k. ⌜ Counted (now (rows .entry)) (now (rows .exit)) k ⌝ }
     ensures greatest { λ _. ⌜ (shaped (A·Source .graph (now (arrangement .entry))) (R·Source .graph (now (room .entry))) (now (rows .entry)) ≡ true → Greatest (A·Source .graph (now (arrangement .entry))) (R·Source .graph (now (room .entry))) strict (now (rows .entry)) (now (rows .exit))) ⌝ }
@@ -221,12 +251,25 @@ pub struct ArcConsistency;
 pub impl Filter for ArcConsistency as ArcConsistencyFilter {
     ghost left = { λ _. support-meaning };
 
-    fn apply<A: Source, R: Source>(&self, arrangement: &A, room: &R, strict: bool, rows: &mut [u64]) -> Counts {
+    fn apply<A: Source, R: Source>(
+        &self,
+        arrangement: &A,
+        room: &R,
+        strict: bool,
+        rows: &mut [u64],
+    ) -> Counts {
         keep_supported(arrangement, room, strict, rows)
     }
 
     // Rows that were left before have their supports at every unit whose row is as it was.
-    fn resume<A: Source, R: Source>(&self, arrangement: &A, room: &R, strict: bool, changed: u64, rows: &mut [u64]) -> Counts {
+    fn resume<A: Source, R: Source>(
+        &self,
+        arrangement: &A,
+        room: &R,
+        strict: bool,
+        changed: u64,
+        rows: &mut [u64],
+    ) -> Counts {
         settle_shaped(arrangement, room, strict, changed, rows)
     }
 }

@@ -19,7 +19,7 @@ index-rows-u c =
     (c .loop-rest .inv) (c .pre .within) (omega arith) .1
 
 pub index-rows-u-then-row-old : need.index-rows-u-then-row-old
-index-rows-u-then-row-old c = 
+index-rows-u-then-row-old c =
     lowest-here (c .args .units) (c .args .keep) (c .args .rows .now) (c .loop-rest .rest) (c .loop-rest .changed) (c .loop-rest .taken) (c .loop-rest .rows)
     (c .loop-rest .inv) (c .pre .within) (omega arith) .1
 
