@@ -1,11 +1,9 @@
 -- Classes of units by their joints to and from one unit. Assumes nothing.
 use mathlib.Core.Path.{_≡_, refl, sym, ap, ap₂, _∙_}
-use mathlib.Core.Logic.{_⊎_, inl, inr}
+use mathlib.Core.Logic.{inl, inr}
 use mathlib.Core.Bool.{Bool, true, false, not, cond, _&&_}
-use Prim.Native.Nat.{ℕ, _+_, _-_, _*_, _/_, _%_, _^_, _≤_, _<_}
-use native.Mathlib.Omega.{arith}
+use Prim.Native.Nat.{ℕ, _-_, _^_, _<_}
 use lib.Bits.{bitAnd}
-use lib.Dec.{eqb}
 use Rattle.std.proofs.shelf.Tests.{cases-lt}
 use Rattle.graphs.specs.Rows.{bit}
 use Rattle.graphs.proofs.Bits.{bit-and, bit-past}

@@ -1,7 +1,7 @@
 -- The rows of some units cut to the bays of one row, from the lowest unit on. Assumes nothing.
 use mathlib.Core.Path.{_≡_, refl, sym, ap, subst, _∙_}
-use mathlib.Core.Bool.{Bool, true, false, _&&_, _||_, not, cond}
-use mathlib.Core.List.{List, [], _∷_}
+use mathlib.Core.Bool.{Bool, true, false, _||_, not}
+use mathlib.Core.List.{List}
 use mathlib.Core.Logic.{_⊎_, inl, inr}
 use Prim.Native.Nat.{ℕ, zero, suc, _+_, _-_, _*_, _/_, _%_, _^_, _≤_, _<_}
 use native.Mathlib.Nat.{pow-succ'}
@@ -19,8 +19,7 @@ use Rattle.graphs.proofs.Rows.{bit-all}
 use Rattle.filters.specs.Filter.{Inside, pair-count, all-below}
 use Rattle.filters.proofs.Shapes.{all-below-at}
 use Rattle.filters.proofs.Counting.{Part, inside-half, low-inside, ones-zero, ones-same, below-pow}
-use Rattle.consistency.specs.declared.Cut.{Cut}
-use Rattle.consistency.specs.Cut.{CutTo, SomeEmpty}
+use Rattle.consistency.specs.Cut.{CutTo}
 use Rattle.consistency.proofs.Lowest.{lowest-off}
 use Rattle.consistency.proofs.Steps.{pair-count-set}
 

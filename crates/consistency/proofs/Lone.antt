@@ -1,14 +1,14 @@
 -- The bays that differ from some bay of a row. Assumes nothing.
 use mathlib.Core.Path.{_≡_, refl, sym, ap, subst, _∙_}
-use mathlib.Core.Bool.{Bool, true, false, _&&_, _||_, not}
-use mathlib.Core.Logic.{_⊎_, inl, inr}
-use Prim.Native.Nat.{ℕ, zero, suc, _+_, _-_, _*_, _/_, _%_, _^_, _≤_, _<_}
+use mathlib.Core.Bool.{Bool, true, false, _&&_, not}
+use mathlib.Core.Logic.{inl, inr}
+use Prim.Native.Nat.{ℕ, _-_, _/_, _^_, _≤_, _<_}
 use native.Mathlib.Omega.{arith}
 use lib.Bits.{bitAnd, and-le-l, and-le-r}
 use lib.Count.{trailingZeros}
 use lib.Dec.{eqb, ltb}
 use lib.Pow.{shr-le}
-use Rattle.std.proofs.shelf.Tests.{both-ways, eqb-true, eq-eqb, ne-eqb, lt-ltb, ltb-true, cases-lt, cases-eq, cases-bool, and-parts, and-from, and-right, not-true, not-from-false}
+use Rattle.std.proofs.shelf.Tests.{both-ways, eq-eqb, ne-eqb, lt-ltb, ltb-true, cases-eq, cases-bool, and-parts, and-from, and-right, not-true, not-from-false}
 use Rattle.graphs.specs.Rows.{bit, row-of}
 use Rattle.graphs.specs.Graph.{Graph}
 use Rattle.graphs.proofs.Bits.{bit-none, bit-and, bit-lowest}

@@ -1,15 +1,15 @@
 -- A row taken apart from its lowest bay. Assumes nothing.
 use mathlib.Core.Path.{_≡_, refl, sym, ap, subst, _∙_}
 use mathlib.Core.Bool.{Bool, true, false, _&&_, _||_, not}
-use mathlib.Core.Logic.{_⊎_, inl, inr}
-use Prim.Native.Nat.{ℕ, zero, suc, _+_, _-_, _*_, _/_, _%_, _^_, _≤_, _<_}
+use mathlib.Core.Logic.{inl, inr}
+use Prim.Native.Nat.{ℕ, zero, suc, _-_, _/_, _%_, _^_, _≤_, _<_}
 use native.Mathlib.Nat.{pow-succ'}
 use native.Mathlib.Omega.{arith}
 use lib.Bits.{bitAnd, bitOr}
 use lib.Count.{trailingZeros, under}
 use lib.Dec.{eqb, ltb}
 use lib.Pow.{pow-mono}
-use Rattle.std.proofs.shelf.Tests.{both-ways, false≢true, eqb-true, eq-eqb, ne-eqb, lt-ltb, ltb-true, cases-eq, cases-bool, and-parts, and-from, and-left, and-right, or-cases, or-left, or-right, not-from-false}
+use Rattle.std.proofs.shelf.Tests.{both-ways, false≢true, ne-eqb, lt-ltb, ltb-true, cases-eq, cases-bool, and-parts, and-from, and-left, or-cases, or-left, or-right, not-from-false}
 use Rattle.std.proofs.shelf.Ways.{tells}
 use Rattle.graphs.specs.Rows.{bit, row-of}
 use Rattle.graphs.specs.Graph.{Graph}

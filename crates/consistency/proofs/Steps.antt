@@ -1,39 +1,27 @@
 -- What the turns of the sweep keep. Assumes nothing.
 use mathlib.Core.Path.{_≡_, refl, sym, ap, subst, _∙_}
-use mathlib.Core.Bool.{Bool, true, false, _&&_, _||_, not, cond}
+use mathlib.Core.Bool.{Bool, true}
 use mathlib.Core.List.{List, [], _∷_}
-use mathlib.Core.Logic.{_⊎_, inl, inr}
-use Prim.Native.Nat.{ℕ, zero, suc, _+_, _-_, _*_, _/_, _%_, _^_, _≤_, _<_}
+use mathlib.Core.Logic.{inl, inr}
+use Prim.Native.Nat.{ℕ, zero, suc, _+_, _≤_, _<_}
 use native.Mathlib.Omega.{arith}
-use lib.Bits.{bitAnd, bitOr}
-use lib.Count.{ones, trailingZeros}
-use lib.Dec.{eqb, ltb, leb}
-use lib.ListN.{length, getD, set, replicate, length-set, length-replicate, getD-replicate}
-use lib.Seq.{getD-set-same, getD-set-other}
+use lib.Count.{ones}
+use lib.ListN.{length, getD, set, replicate, length-replicate, getD-replicate}
 use Rattle.std.proofs.shelf.Lists.{getD-past, ext-getD}
-use Rattle.std.proofs.shelf.Tests.{both-ways, ltb-true, lt-ltb, cases-lt, cases-eq, cases-bool, and-parts, and-from}
-use Rattle.graphs.specs.Rows.{bit, pairs, row-of}
+use Rattle.std.proofs.shelf.Tests.{both-ways, cases-lt, cases-eq}
+use Rattle.graphs.specs.Rows.{bit}
 use Rattle.graphs.specs.Graph.{Graph, Sound}
-use Rattle.graphs.proofs.Bits.{bit-none, bit-and, bit-or}
-use Rattle.graphs.proofs.Rows.{bit-row-of}
-use Rattle.placements.specs.Agreement.{agrees-if, agrees}
+use Rattle.graphs.proofs.Bits.{bit-none}
 use Rattle.filters.specs.Filter.{shaped, pair-count, Inside}
-use Rattle.filters.proofs.Counting.{ones-mono, ones-zero, pair-count-mono}
-use Rattle.filters.proofs.Shapes.{Shape, shape-of, shaped-kept, shaped-few, bit-unit, pair-count-same}
-use Rattle.consistency.specs.declared.Cut.{Cut}
-use Rattle.consistency.specs.Cut.{CutTo, SomeEmpty}
-use Rattle.consistency.specs.Support.{Supporter, Arc, Supported, SupportedBut, Greatest, any-of, revised}
-use Rattle.consistency.proofs.Theory.{any-has, any-some}
+use Rattle.filters.proofs.Counting.{ones-zero, pair-count-mono}
+use Rattle.filters.proofs.Shapes.{shape-of, shaped-few}
+use Rattle.consistency.specs.Cut.{SomeEmpty}
+use Rattle.consistency.specs.Support.{Supported, Greatest}
 
 pub pair-count-set : (xs : List ℕ) (i x : ℕ) → i < length xs → pair-count (set xs i x) + ones (getD xs i 0) ≡ pair-count xs + ones x
 pair-count-set [] i x l = absurd (omega arith)
 pair-count-set (y ∷ ys) zero x l = omega arith
 pair-count-set (y ∷ ys) (suc i) x l = let h = pair-count-set ys i x (omega arith) in omega arith
-
-pub set-same : (xs : List ℕ) (i : ℕ) → i < length xs → set xs i (getD xs i 0) ≡ xs
-set-same [] i l = absurd (omega arith)
-set-same (x ∷ xs) zero l = refl
-set-same (x ∷ xs) (suc i) l = ap (λ (ys : List ℕ). x ∷ ys) (set-same xs i (omega arith))
 
 pub pair-count-none : (n : ℕ) → pair-count (replicate n 0) ≡ 0
 pair-count-none zero = refl
@@ -49,7 +37,7 @@ getD-none n u =
       | inr l ↦ getD-past (replicate n 0) u 0 (omega (arith, length-replicate {A = ℕ} n 0))
     ]
 
--- From some rows to others: only pair-count that no supported rows hold were taken away, and counted
+-- From some rows to others: only pairs that no supported rows hold were taken away, and counted
 pub record Thinned (a r : Graph) (k : Bool) (from : List ℕ) (before : ℕ) (to : List ℕ) (after : ℕ) : Type 0 where
   pub shape : shaped a r to ≡ true
   pub many : length to ≡ length from
@@ -77,9 +65,6 @@ module _ (a r : Graph) (k : Bool) where
 
   pub thin-rises : (xs ys : List ℕ) (x y : ℕ) → Thinned a r k xs x ys y → x ≤ y
   thin-rises xs ys x y h = let m = pair-count-mono ys xs (h .many) (h .inside) in omega (arith, h .counted)
-
-  pub thin-same : (xs ys : List ℕ) (x y : ℕ) → shaped a r xs ≡ true → Thinned a r k xs x ys y → y ≡ x → ys ≡ xs
-  thin-same xs ys x y s h e = pair-count-same (r .count) ys xs (h .many) (shape-of a r xs s .rest) (h .inside) (omega (arith, h .counted))
 
   -- where a row is empty, no supported rows hold a pair
   pub none-left : (shown zs : List ℕ) (z u : ℕ) → shaped a r shown ≡ true → Thinned a r k shown 0 zs z → u < a .count → getD zs u 0 ≡ 0

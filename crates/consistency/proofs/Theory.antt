@@ -1,9 +1,9 @@
 -- Repeated sweeps leave the greatest supported rows. Assumes nothing.
 use mathlib.Core.Path.{_≡_, refl, sym, ap, subst, _∙_}
-use mathlib.Core.Bool.{Bool, true, false, _&&_, _||_, cond}
-use mathlib.Core.List.{List, [], _∷_, map}
+use mathlib.Core.Bool.{Bool, true, false, _&&_, _||_}
+use mathlib.Core.List.{List}
 use mathlib.Core.Logic.{_⊎_, inl, inr}
-use Prim.Native.Nat.{ℕ, zero, suc, _+_, _^_, _≤_, _<_}
+use Prim.Native.Nat.{ℕ, zero, suc, _^_, _≤_, _<_}
 use native.Mathlib.Omega.{arith}
 use lib.Dec.{eqb, ltb}
 use lib.ListN.{length, getD}
@@ -11,21 +11,21 @@ use Rattle.std.proofs.shelf.Counted.{length-map-counting, getD-map-counting}
 use Rattle.std.proofs.shelf.Lists.{ext-getD}
 use Rattle.std.specs.Orderings.{Decides}
 use Rattle.std.proofs.shelf.Ways.{decides-eqb, decides-or}
-use Rattle.std.proofs.shelf.Tests.{both-ways, false≢true, eqb-true, eqb-false, lt-ltb, eq-eqb, cases-eq, cases-bool, and-parts, and-from, or-cases, or-left, or-right, cond-true, cond-false}
+use Rattle.std.proofs.shelf.Tests.{both-ways, eqb-true, eqb-false, lt-ltb, cases-eq, cases-bool, and-parts, and-from, cond-true, cond-false}
 use Rattle.graphs.specs.Rows.{bit, pairs, row-of}
-use Rattle.graphs.specs.Graph.{Graph, Sound}
+use Rattle.graphs.specs.Graph.{Graph}
 use Rattle.graphs.proofs.Bits.{bit-none, bit-and, bits-below, same-rows}
 use Rattle.graphs.proofs.Rows.{bit-row-of}
 use Rattle.placements.specs.Agreement.{agrees}
 use Rattle.placements.proofs.Masks.{bit-full}
 use Rattle.placements.proofs.Deciding.{each-decides, some-decides, decides-itself}
 use Rattle.placements.specs.Placement.{Placement, Within}
-use Rattle.filters.specs.Filter.{shaped, pair-count, Inside, Lawful, Meaning, CutFrom}
-use Rattle.filters.specs.Composed.{repeat, repeat-meaning}
+use Rattle.filters.specs.Filter.{shaped, pair-count, Inside, Lawful, CutFrom}
+use Rattle.filters.specs.Composed.{repeat}
 use Rattle.filters.proofs.Counting.{pair-count-mono}
-use Rattle.filters.proofs.Shapes.{Shape, shape-of, shaped-kept, bit-unit, pair-count-same, all-below-at, taken-less}
+use Rattle.filters.proofs.Shapes.{shape-of, shaped-kept, bit-unit, pair-count-same, all-below-at}
 use Rattle.filters.proofs.Laws.{repeat-lawful}
-use Rattle.consistency.specs.Support.{Supporter, Arc, Supported, SupportedBut, Greatest, AllOrNone, any-of, supported-by, swept-row, swept, sweep-meaning, support-meaning, SupportGreatest}
+use Rattle.consistency.specs.Support.{Supported, SupportedBut, Greatest, AllOrNone, any-of, supported-by, swept-row, swept, sweep-meaning, support-meaning, SupportGreatest}
 
 pub bool-ext : (s t : Bool) → (s ≡ true → t ≡ true) → (t ≡ true → s ≡ true) → s ≡ t
 bool-ext true t f g = sym (f refl)

@@ -1,27 +1,27 @@
 -- The work list: units whose rows the others must still be checked against. Assumes nothing.
 use mathlib.Core.Path.{_≡_, refl, sym, ap, subst, _∙_}
-use mathlib.Core.Bool.{Bool, true, false, _&&_, _||_, not, cond}
+use mathlib.Core.Bool.{Bool, true, false, _&&_, not, cond}
 use mathlib.Core.List.{List, [], _∷_}
-use mathlib.Core.Logic.{_⊎_, inl, inr}
+use mathlib.Core.Logic.{inl, inr}
 use Prim.Native.Nat.{ℕ, zero, suc, _+_, _-_, _*_, _/_, _%_, _^_, _≤_, _<_}
 use native.Mathlib.Omega.{arith}
 use lib.Bits.{bitAnd, bitOr, and-le-r, or-zero-r}
-use lib.Count.{ones, trailingZeros}
+use lib.Count.{trailingZeros}
 use lib.Dec.{eqb, ltb}
-use lib.ListN.{length, getD, replicate}
+use lib.ListN.{length, getD}
 use lib.Pow.{pow-mono}
-use Rattle.std.proofs.shelf.Tests.{both-ways, false≢true, ltb-true, lt-ltb, eqb-true, eq-eqb, ne-eqb, cases-lt, cases-eq, cases-bool, and-parts, and-from, or-cases, not-true, not-from-false}
-use Rattle.graphs.specs.Rows.{bit, pairs, row-of}
+use Rattle.std.proofs.shelf.Tests.{both-ways, false≢true, ltb-true, lt-ltb, eq-eqb, ne-eqb, cases-eq, cases-bool, and-parts, and-from, or-cases, not-true, not-from-false}
+use Rattle.graphs.specs.Rows.{bit, row-of}
 use Rattle.graphs.specs.Graph.{Graph, Sound}
-use Rattle.graphs.proofs.Bits.{bit-none, bit-and, bit-or, bit-lowest, bit-below, bits-below}
+use Rattle.graphs.proofs.Bits.{bit-none, bit-or, bit-lowest, bits-below}
 use Rattle.graphs.proofs.Rows.{bit-row-of}
 use Rattle.placements.specs.Agreement.{agrees-if, agrees}
 use Rattle.placements.proofs.Masks.{bit-full, others-low}
 use Rattle.filters.specs.Filter.{shaped, pair-count, empty-count, Inside}
-use Rattle.filters.proofs.Shapes.{Shape, shape-of, shaped-kept}
+use Rattle.filters.proofs.Shapes.{shape-of, shaped-kept}
 use Rattle.consistency.specs.declared.Cut.{Cut}
 use Rattle.consistency.specs.Cut.{CutTo, SomeEmpty}
-use Rattle.consistency.specs.Support.{Supporter, Arc, Supported, SupportedBut, Greatest, any-of, revised}
+use Rattle.consistency.specs.Support.{Arc, SupportedBut, Greatest, any-of, revised}
 use Rattle.consistency.proofs.Theory.{any-has, any-some}
 use Rattle.consistency.proofs.Lowest.{lowest-off, bit-mask}
 use Rattle.consistency.proofs.Cuts.{or-none}

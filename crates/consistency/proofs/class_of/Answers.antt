@@ -1,8 +1,4 @@
 use native.Mathlib.Omega.{arith}
-use mathlib.Core.Path.{_≡_, refl, sym, ap, _∙_}
-use mathlib.Core.Bool.{Bool, true, false, not, cond, _&&_}
-use Prim.Native.Nat.{ℕ, _<_, _^_, _-_}
-use Rattle.graphs.specs.Rows.{bit}
 use Rattle.consistency.proofs.Classes.{class-bits, chosen, left-out}
 use Rattle.consistency.proofs.class_of.Needs as need
 use Rattle.consistency.proofs.class_of.Needs.{then-out, else-out, then-back, else-back}

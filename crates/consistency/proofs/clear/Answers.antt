@@ -1,9 +1,7 @@
 use native.Mathlib.Omega.{arith}
-use mathlib.Core.Path.{_≡_, refl, sym, ap, _∙_}
-use mathlib.Core.List.{List}
-use Prim.Native.Nat.{ℕ, _+_, _<_}
-use lib.Count.{ones}
-use lib.ListN.{length, getD, set, replicate}
+use mathlib.Core.Path.{_≡_, ap, _∙_}
+use Prim.Native.Nat.{ℕ, _<_}
+use lib.ListN.{length, replicate}
 use Rattle.std.proofs.shelf.Edits.{fill-by-more}
 use Rattle.filters.specs.Filter.{pair-count}
 use Rattle.filters.proofs.Counting.{ones-zero}

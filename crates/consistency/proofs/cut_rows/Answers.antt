@@ -1,12 +1,11 @@
 use native.Mathlib.Omega.{arith}
-use mathlib.Core.Path.{_≡_, refl, sym, ap, subst, _∙_}
-use mathlib.Core.List.{List}
-use Prim.Native.Nat.{ℕ, _+_, _-_, _*_, _%_, _^_, _≤_, _<_}
+use mathlib.Core.Path.{_∙_}
+use Prim.Native.Nat.{ℕ, _+_, _-_, _*_, _%_, _^_, _<_}
 use lib.Bits.{bitAnd, bitOr, and-le-l}
 use lib.Count.{ones, trailingZeros}
 use lib.ListN.{length, getD, set, length-set}
 use lib.Seq.{getD-set-same}
-use Rattle.consistency.proofs.Cuts.{Cutting, cutting-start, lowest-here, cutting-pass, cutting-step, step-few, cut-all, cut-short, cutting-as}
+use Rattle.consistency.proofs.Cuts.{cutting-start, lowest-here, cutting-pass, cutting-step, step-few, cut-all, cut-short, cutting-as}
 use Rattle.consistency.proofs.cut_rows.Needs as need
 use Rattle.consistency.proofs.cut_rows.Needs.{then-row-old·else-row-eq0, else-row-old}
 

@@ -1,11 +1,9 @@
 use native.Mathlib.Omega.{arith}
-use mathlib.Core.Path.{_≡_, refl, sym, ap, subst, _∙_}
-use mathlib.Core.Bool.{Bool, true, false, _||_}
-use Prim.Native.Nat.{ℕ, _-_, _/_, _^_, _<_, _≤_}
+use mathlib.Core.Path.{ap, _∙_}
+use Prim.Native.Nat.{ℕ, _-_, _/_, _^_}
 use lib.Bits.{bitAnd, bitOr}
 use Rattle.graphs.specs.Graph.{Graph}
 use Rattle.consistency.proofs.Lowest.{apart-start, apart-more, apart-end, apart-full, differing-revised}
-use Rattle.consistency.specs.Support.{revised}
 use Rattle.consistency.proofs.revise.Needs as need
 
 pub returns-then-not-out-back : need.returns-then-not-out-back

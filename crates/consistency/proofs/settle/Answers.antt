@@ -1,17 +1,14 @@
 use native.Mathlib.Omega.{arith}
-use mathlib.Core.Path.{_≡_, refl, sym, ap, subst, _∙_}
-use mathlib.Core.Bool.{Bool}
-use mathlib.Core.List.{List}
-use Prim.Native.Nat.{ℕ, _+_, _-_, _*_, _/_, _%_, _≤_, _<_}
-use lib.Bits.{bitAnd, bitOr}
+use mathlib.Core.Path.{refl, _∙_}
+use Prim.Native.Nat.{ℕ, _+_, _-_, _/_, _%_, _<_}
+use lib.Bits.{bitAnd}
 use lib.Count.{trailingZeros}
 use lib.Dec.{eqb}
 use lib.ListN.{length, getD}
 use Rattle.graphs.specs.Graph.{Graph}
-use Rattle.filters.specs.Filter.{pair-count}
 use Rattle.filters.proofs.Shapes.{shape-of, shaped-few}
 use Rattle.consistency.proofs.Steps.{thin-none, cleared}
-use Rattle.consistency.proofs.Turns.{Turned, Sweeping, Class, sweep-start, sweep-end, lowest-unit, turn-start, turn-end, turn-less, class-is, turn-all, turn-more, some-empty}
+use Rattle.consistency.proofs.Turns.{Class, sweep-start, sweep-end, lowest-unit, turn-start, turn-end, turn-less, class-is, turn-all, turn-more, some-empty}
 use Rattle.consistency.proofs.settle.Needs as need
 
 pub clear-requires : need.clear-requires
