@@ -1,14 +1,14 @@
 -- Counts under injective maps, and so the degrees under placements. Assumes nothing.
-use mathlib.Core.Path.{_≡_, refl, sym, ap, subst, _∙_}
+use mathlib.Core.Path.{_≡_, refl, sym, ap, _∙_}
 use mathlib.Core.Bool.{Bool, true, false, _&&_, not, cond}
 use mathlib.Core.List.{List}
-use mathlib.Core.Logic.{_⊎_, inl, inr}
+use mathlib.Core.Logic.{inl, inr}
 use Prim.Native.Nat.{ℕ, zero, suc, _+_, _-_, _*_, _/_, _%_, _^_, _≤_, _<_}
 use native.Mathlib.Numerals.{add-one}
 use native.Mathlib.Omega.{arith}
 use lib.Count.{ones, ones-step}
 use lib.Dec.{eqb, ltb}
-use lib.ListN.{length, getD}
+use lib.ListN.{getD}
 use Rattle.std.proofs.shelf.Tests.{eqb-false, eq-eqb, ne-eqb, cases-eq, cases-bool, cases-lt, cond-true, cond-false, and-parts, and-from, and-left, and-right, not-true, not-from-false, not-from-true, lt-ltb, le-ltb, both-ways}
 use Rattle.graphs.specs.Graph.{Graph, Sound}
 use Rattle.graphs.specs.Rows.{bit, row-from, row-of}
@@ -110,10 +110,10 @@ count-injects (suc m) n p q f h =
       | inl e ↦
           let at = h .into m (omega arith) e in
           let i = count-injects m n p (but q (f m)) f (record {
-                into = λ v l t. let z = h .into v (omega arith) t in
-                  (z .0, sym (but-other q (f m) (f v) (λ y. let w = h .injective v m (omega arith) (omega arith) t e y in omega arith)) ∙ z .1);
-                injective = λ v w lv lw. h .injective v w (omega arith) (omega arith);
-              }) in
+            into = λ v l t. let z = h .into v (omega arith) t in
+                (z .0, sym (but-other q (f m) (f v) (λ y. let w = h .injective v m (omega arith) (omega arith) t e y in omega arith)) ∙ z .1);
+            injective = λ v w lv lw. h .injective v w (omega arith) (omega arith);
+          }) in
           omega (arith, count-but n (f m) q (at .0) (at .1), one-if (p m) e)
       | inr e ↦
           let i = count-injects m n p q f (record { into = λ v l. h .into v (omega arith); injective = λ v w lv lw. h .injective v w (omega arith) (omega arith) }) in
@@ -129,10 +129,10 @@ count-full m n p q f h apart few u lu lf e =
       | inl t ↦ t
       | inr no-u ↦
           let i = count-injects m n p (but q (f u)) f (record {
-                into = λ v l t. let z = h .into v l t in
-                  (z .0, sym (but-other q (f u) (f v) (λ y. both-ways (p u) no-u (ap p (sym (apart v u l lu y)) ∙ t))) ∙ z .1);
-                injective = h .injective;
-              }) in
+            into = λ v l t. let z = h .into v l t in
+                (z .0, sym (but-other q (f u) (f v) (λ y. both-ways (p u) no-u (ap p (sym (apart v u l lu y)) ∙ t))) ∙ z .1);
+            injective = h .injective;
+          }) in
           absurd (omega (arith, count-but n (f u) q lf e))
     ]
 

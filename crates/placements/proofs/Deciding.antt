@@ -1,11 +1,10 @@
 -- The tests of placements, rows and order say what the relations say. Assumes nothing.
-use mathlib.Core.Path.{_≡_, refl, sym, ap, _∙_}
-use mathlib.Core.Bool.{Bool, true, false, _&&_, _||_}
+use mathlib.Core.Path.{_≡_, refl, ap, _∙_}
+use mathlib.Core.Bool.{Bool, true, false, _&&_}
 use mathlib.Core.List.{List}
 use mathlib.Core.Logic.{_⊎_, inl, inr}
-use Prim.Native.Nat.{ℕ, zero, suc, _+_, _<_, _≤_}
+use Prim.Native.Nat.{ℕ, _+_, _<_}
 use native.Mathlib.Numerals.{add-one}
-use native.Mathlib.Omega.{arith}
 use lib.Dec.{eqb, ltb}
 use lib.ListN.{length, getD}
 use Rattle.std.specs.Orderings.{Decides}
@@ -57,13 +56,13 @@ unit-decides a r strict w u =
     decides-and (ltb (getD w u 0) (r .count)) (each-below (a .count) (pair-test a r strict w u))
     (decides-ltb (getD w u 0) (r .count))
     (each-decides (pair-test a r strict w u) (λ v. (u ≡ v) ⊎ (agrees a r strict u (getD w u 0) v (getD w v 0) ≡ true))
-      (λ v. decides-or (eqb u v) (agrees a r strict u (getD w u 0) v (getD w v 0)) (decides-eqb u v) (decides-itself (agrees a r strict u (getD w u 0) v (getD w v 0)))) (a .count))
+    (λ v. decides-or (eqb u v) (agrees a r strict u (getD w u 0) v (getD w v 0)) (decides-eqb u v) (decides-itself (agrees a r strict u (getD w u 0) v (getD w v 0)))) (a .count))
 
 pub placement-decides : (a r : Graph) (strict : Bool) (w : List ℕ) → Decides (placement-test a r strict w) (Placement a r strict w)
 placement-decides a r strict w =
     decides-like (placement-test a r strict w) to from
     (decides-and (eqb (length w) (a .count)) (each-below (a .count) (unit-test a r strict w)) (decides-eqb (length w) (a .count))
-      (each-decides (unit-test a r strict w) (Suits a r strict w) (unit-decides a r strict w) (a .count)))
+    (each-decides (unit-test a r strict w) (Suits a r strict w) (unit-decides a r strict w) (a .count)))
   where
     other : (u v : ℕ) → (u ≡ v → ⊥) → (u ≡ v) ⊎ (agrees a r strict u (getD w u 0) v (getD w v 0) ≡ true) → agrees a r strict u (getD w u 0) v (getD w v 0) ≡ true
     other u v ne (inl e) = absurd (ne e)
@@ -84,5 +83,5 @@ before-decides v w =
     (λ h. record { unit = h .0; below = h .1; same = h .2 .1; lower = h .2 .0 })
     (λ b. (b .unit, b .below, (b .lower, b .same)))
     (some-decides (λ u. ltb (getD v u 0) (getD w u 0) && each-below u (λ k. eqb (getD v k 0) (getD w k 0))) (λ u. (getD v u 0 < getD w u 0) × ((k : ℕ) → k < u → getD v k 0 ≡ getD w k 0))
-      (λ u. decides-and (ltb (getD v u 0) (getD w u 0)) (each-below u (λ k. eqb (getD v k 0) (getD w k 0))) (decides-ltb (getD v u 0) (getD w u 0))
-        (each-decides (λ k. eqb (getD v k 0) (getD w k 0)) (λ k. getD v k 0 ≡ getD w k 0) (λ k. decides-eqb (getD v k 0) (getD w k 0)) u)) (length w))
+    (λ u. decides-and (ltb (getD v u 0) (getD w u 0)) (each-below u (λ k. eqb (getD v k 0) (getD w k 0))) (decides-ltb (getD v u 0) (getD w u 0))
+    (each-decides (λ k. eqb (getD v k 0) (getD w k 0)) (λ k. getD v k 0 ≡ getD w k 0) (λ k. decides-eqb (getD v k 0) (getD w k 0)) u)) (length w))

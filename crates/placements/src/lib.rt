@@ -6,7 +6,7 @@ ghost use Rattle.std.specs.Orderings.{Decides};
 ghost use Rattle.graphs.specs.Rows.{bit, row-of};
 ghost use Rattle.placements.specs.Agreement.{half, agrees-if, agrees};
 ghost use Rattle.placements.specs.Placement.{Placement};
-ghost use Rattle.placements.specs.Morphisms.{OpenIsMono, StrictIsInduced};
+ghost use Rattle.placements.specs.Morphisms.{AgreementOnce, OpenIsMono, StrictIsInduced};
 ghost use Rattle.placements.specs.Tests.{unit-test};
 use graphs::Source;
 
@@ -42,7 +42,15 @@ fn one_way_suits(units: bool, bays: bool, strict: bool) -> bool
 }
 
 // Whether the pairs (u, b) and (v, c) of two different units agree.
-fn agree<A: Source, R: Source>(arrangement: &A, room: &R, strict: bool, u: usize, b: usize, v: usize, c: usize) -> bool
+fn agree<A: Source, R: Source>(
+    arrangement: &A,
+    room: &R,
+    strict: bool,
+    u: usize,
+    b: usize,
+    v: usize,
+    c: usize,
+) -> bool
     ensures { λ r. ⌜ r ≡ agrees (A·Source .graph (now (arrangement .entry))) (R·Source .graph (now (room .entry))) strict u b v c ⌝ }
 {
     let out = one_way_suits(arrangement.joined(u, v), room.joined(b, c), strict);
@@ -51,7 +59,13 @@ fn agree<A: Source, R: Source>(arrangement: &A, room: &R, strict: bool, u: usize
 }
 
 // Whether the bay of the unit `u` is in the room and agrees with the bay of each other unit.
-fn suits<A: Source, R: Source>(arrangement: &A, room: &R, strict: bool, bays: &[u8], u: usize) -> bool
+fn suits<A: Source, R: Source>(
+    arrangement: &A,
+    room: &R,
+    strict: bool,
+    bays: &[u8],
+    u: usize,
+) -> bool
     requires { ⌜ u < length (now bays) ⌝ ∗ ⌜ length (now bays) ≡ A·Source .graph (now arrangement) .count ⌝ }
     ensures { λ r. ⌜ r ≡ unit-test (A·Source .graph (now (arrangement .entry))) (R·Source .graph (now (room .entry))) strict (now (bays .entry)) u ⌝ }
 {
@@ -67,8 +81,14 @@ fn suits<A: Source, R: Source>(arrangement: &A, room: &R, strict: bool, bays: &[
 
 // Whether the list, one bay a unit, is a placement of the arrangement in the room. In open use that is a monomorphism of the
 // graphs, in strict use an isomorphism onto a subgraph that the room has induced.
-pub fn is_placement<A: Source, R: Source>(arrangement: &A, room: &R, strict: bool, bays: &[u8]) -> bool
+pub fn is_placement<A: Source, R: Source>(
+    arrangement: &A,
+    room: &R,
+    strict: bool,
+    bays: &[u8],
+) -> bool
     ensures decides { λ r. ⌜ Decides r (Placement (A·Source .graph (now (arrangement .entry))) (R·Source .graph (now (room .entry))) strict (now (bays .entry))) ⌝ }
+    ensures agreement { λ _. ⌜ AgreementOnce ⌝ }
     ensures monomorphism { λ _. ⌜ OpenIsMono ⌝ }
     ensures induced { λ _. ⌜ StrictIsInduced ⌝ }
 {

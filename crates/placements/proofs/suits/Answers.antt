@@ -1,4 +1,4 @@
-use mathlib.Core.Path.{_≡_, sym, ap, _∙_}
+use mathlib.Core.Path.{sym, ap, _∙_}
 use mathlib.Core.Bool.{Bool, _||_}
 use Prim.Native.Nat.{ℕ, _<_}
 use native.Mathlib.Omega.{arith}
@@ -19,7 +19,7 @@ returns-then-not-agreed g c =
     let p : ℕ → Bool = pair-test a (g .R·Source .graph (c .args .room .now)) (c .args .strict) (c .args .bays .now) (c .args .u) in
     let l : c .loop-v .v < a .count = omega (arith, c .pre .1) in
     sym (and-right (ltb (getD (c .args .bays .now) (c .args .u) 0) (g .R·Source .graph (c .args .room .now) .count)) (each-below (a .count) p)
-      (each-stops p (a .count) (c .loop-v .v) l (ap (λ (t : Bool). eqb (c .args .u) (c .loop-v .v) || t) (sym (c .agree .ensures)) ∙ c .if-not-agreed .taken)))
+    (each-stops p (a .count) (c .loop-v .v) l (ap (λ (t : Bool). eqb (c .args .u) (c .loop-v .v) || t) (sym (c .agree .ensures)) ∙ c .if-not-agreed .taken)))
 
 pub loop-v-again : need.loop-v-again
 loop-v-again g c =
