@@ -24,6 +24,7 @@ unfoldable pub listing : ℕ → ℕ → (List ℕ → Bool) → List (List ℕ)
 listing zero n test = cond (test []) ([] ∷ []) []
 listing (suc m) n test = headed (λ b. listing m n (λ w. test (b ∷ w))) 0 n
 
+-- the head of the list, where it has one
 abbrev pub first-of : List (List ℕ) → Option (List ℕ)
 first-of [] = None
 first-of (w ∷ ws) = Some w

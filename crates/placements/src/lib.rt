@@ -80,7 +80,7 @@ fn suits<A: Source, R: Source>(
 }
 
 // Whether the list, one bay a unit, is a placement of the arrangement in the room. In open use that is a monomorphism of the
-// graphs, in strict use an isomorphism onto a subgraph that the room has induced.
+// graphs, in strict use an isomorphism onto the subgraph that its bays induce in the room.
 pub fn is_placement<A: Source, R: Source>(
     arrangement: &A,
     room: &R,
