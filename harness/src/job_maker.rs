@@ -47,7 +47,7 @@ pub fn worked_job() -> Vec<u8> {
 
 /// Series are rare, because each gives many jobs.
 fn more_jobs(chance: &mut Chance) -> Vec<Vec<u8>> {
-    match chance.weighted(&[700, 110, 40, 250, 90, 5, 2, 5]) {
+    match chance.weighted(&[800, 120, 40, 250, 90, 4, 1, 4]) {
         0 => vec![any_drawing(chance).parts().bytes()],
         1 => vec![trimmed_job(chance)],
         2 => vec![single_unit_job(chance)],

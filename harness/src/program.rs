@@ -24,7 +24,8 @@ pub fn run(program: &Path, input: &[u8]) -> Result<Outcome, String> {
     feed(&mut child, input);
     let output = collect(child.stdout.take());
     let complaint = collect(child.stderr.take());
-    let written = output.recv_timeout(LONGEST).and_then(|output| Ok((output, complaint.recv_timeout(LONGEST)?)));
+    let written =
+        output.recv_timeout(LONGEST).and_then(|output| Ok((output, complaint.recv_timeout(LONGEST)?)));
     let Ok((output, complaint)) = written else {
         let _ = child.kill();
         let _ = child.wait();

@@ -11,12 +11,15 @@ use crate::reference::rows::{all_below, only};
 pub fn script(chance: &mut Chance, patience: u32) -> Vec<u8> {
     let mut maker = ScriptMaker::new(chance.clone(), patience);
     maker.opening();
-    for _ in 0..maker.chance.between(5, 60) {
-        let line = maker.any_line();
-        maker.add(line);
+    for _ in 0..maker.chance.between(5, 50) {
+        maker.step();
     }
     if maker.chance.percent(8) {
         maker.add_unreadable();
+    }
+    if maker.chance.percent(10) && maker.script.last() == Some(&b'\n') {
+        // The last line counts without its end, too.
+        maker.script.pop();
     }
     *chance = maker.chance;
     maker.script
@@ -35,13 +38,16 @@ struct ScriptMaker {
     desk: Desk,
     /// One a plan.
     sources: Vec<Sources>,
+    /// The plan was just begun or opened: most calls would meet no fit.
+    just_started: bool,
     script: Vec<u8>,
 }
 
 impl ScriptMaker {
     fn new(chance: Chance, patience: u32) -> ScriptMaker {
         let single = Sources { arrangement: "G1x1".to_string(), room: "T1x1:0".to_string() };
-        ScriptMaker { chance, desk: Desk::new(patience), sources: vec![single; 10], script: Vec::new() }
+        let (desk, sources) = (Desk::new(patience), vec![single; 10]);
+        ScriptMaker { chance, desk, sources, just_started: false, script: Vec::new() }
     }
 
     /// A line whose search takes too long for the reference is left out.
@@ -56,11 +62,13 @@ impl ScriptMaker {
 
     fn keep(&mut self, line: String, desk: Desk, answer: Option<String>) {
         self.desk = desk;
-        self.script.extend(line.as_bytes());
+        let written = if self.chance.percent(5) { spaced_out(&line) } else { line.clone() };
+        self.script.extend(written.as_bytes());
         self.script.push(b'\n');
         let started = line.starts_with("begin") || line.starts_with("open");
         if started && answer.as_deref() == Some("ok") {
             self.new_sources();
+            self.just_started = true;
         }
     }
 
@@ -81,16 +89,44 @@ impl ScriptMaker {
 
     /// Most scripts open with a plan that can be searched.
     fn opening(&mut self) {
-        if self.chance.percent(85) {
+        if self.chance.percent(90) {
             let line = self.begin_inside();
-            self.add(line);
-            let line = self.fit_line("fit");
             self.add(line);
         }
     }
 
+    fn step(&mut self) {
+        if self.just_started && self.chance.percent(85) {
+            self.just_started = false;
+            let line = self.fit_line("fit");
+            return self.add(line);
+        }
+        if self.chance.percent(15) {
+            return self.leaf();
+        }
+        if self.chance.percent(1) {
+            return self.add_strange_remark();
+        }
+        let line = self.any_line();
+        self.add(line);
+    }
+
+    /// Seeks and goes further with the same sources, sometimes striking between.
+    fn leaf(&mut self) {
+        let (shown, length) = (self.shown(), self.desk.plan().units());
+        self.add(format!("seek {shown} {length}"));
+        for _ in 0..self.chance.between(1, 8) {
+            if self.chance.percent(15) {
+                let call = self.chance.pick(&["strike", "free"]);
+                let line = self.pair_line(call);
+                self.add(line);
+            }
+            self.add(format!("further {shown} {length}"));
+        }
+    }
+
     fn any_line(&mut self) -> String {
-        match self.chance.weighted(&[4, 4, 12, 6, 7, 5, 13, 18, 8, 3, 4, 4, 1, 2, 1, 2, 2, 6, 3, 2, 2]) {
+        match self.chance.weighted(&[3, 3, 9, 6, 6, 5, 12, 12, 9, 3, 4, 3, 1, 2, 1, 2, 2, 7, 3, 2, 2]) {
             0 => self.begin_line(),
             1 => self.open_line(),
             2 => self.pair_line("strike"),
@@ -194,7 +230,8 @@ impl ScriptMaker {
     }
 
     fn heights(&mut self, count: usize) -> Vec<usize> {
-        let heights = [299, 300, 450, 600, 649, 650, 749, 750, 900, 1299, 1300, 1300, 2400, 2400, 2400, 65535];
+        let heights =
+            [299, 300, 450, 600, 649, 650, 749, 750, 900, 1299, 1300, 1300, 2400, 2400, 2400, 65535];
         (0..count).map(|_| self.chance.pick(&heights)).collect()
     }
 
@@ -314,7 +351,11 @@ impl ScriptMaker {
     /// A random row, within the bays unless `past`.
     fn row(&mut self, bays: usize, share: usize, past: bool) -> u64 {
         let kept = (0..64).filter(|_| self.chance.percent(share)).fold(0, |row, bay| row | only(bay));
-        if past { kept } else { kept & all_below(bays) }
+        if past {
+            kept
+        } else {
+            kept & all_below(bays)
+        }
     }
 
     fn read_table_line(&mut self) -> String {
@@ -345,6 +386,15 @@ impl ScriptMaker {
         self.chance.pick(&lines).to_string()
     }
 
+    /// A remark of any bytes, seldom a very long one, is passed over too.
+    fn add_strange_remark(&mut self) {
+        let length = self.chance.pick(&[1, 10, 10, 10, 10, 300, 70_000]);
+        let bytes: Vec<u8> = (0..length).map(|_| self.chance.byte()).collect();
+        self.script.push(b'#');
+        self.script.extend(bytes.into_iter().filter(|byte| *byte != b'\n'));
+        self.script.push(b'\n');
+    }
+
     /// A line that nobody can read, and one after it that is not done.
     fn add_unreadable(&mut self) {
         let line = match self.chance.percent(10) {
@@ -354,6 +404,14 @@ impl ScriptMaker {
         self.script.extend(line);
         self.script.extend(b"\ntally\n");
     }
+}
+
+/// The same words with more blanks around them; remarks stay as they are.
+fn spaced_out(line: &str) -> String {
+    if line.starts_with('#') {
+        return line.to_string();
+    }
+    format!(" {}  ", line.replace(' ', "   "))
 }
 
 fn table_word(rows: &[u64]) -> String {

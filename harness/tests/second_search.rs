@@ -81,11 +81,14 @@ fn support_leaves_the_greatest_supported_rows() {
 }
 
 fn union_of_supported(scene: &Scene, rows: &[u64]) -> Vec<u64> {
-    let shown: Vec<(usize, usize)> =
-        (0..rows.len()).flat_map(|unit| (0..64).map(move |bay| (unit, bay))).filter(|(unit, bay)| holds(rows[*unit], *bay)).collect();
+    let shown: Vec<(usize, usize)> = (0..rows.len())
+        .flat_map(|unit| (0..64).map(move |bay| (unit, bay)))
+        .filter(|(unit, bay)| holds(rows[*unit], *bay))
+        .collect();
     let mut union = vec![0; rows.len()];
     for choice in 0..1u64 << shown.len() {
-        let chosen: Vec<(usize, usize)> = (0..shown.len()).filter(|at| holds(choice, *at)).map(|at| shown[at]).collect();
+        let chosen: Vec<(usize, usize)> =
+            (0..shown.len()).filter(|at| holds(choice, *at)).map(|at| shown[at]).collect();
         if all_supported(scene, rows.len(), &chosen) {
             chosen.iter().for_each(|(unit, bay)| union[*unit] |= only(*bay));
         }

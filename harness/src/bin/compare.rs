@@ -29,7 +29,11 @@ fn main() -> ExitCode {
         _ => compare_scripts(&wish),
     };
     tally.print(&wish);
-    if tally.different == 0 { ExitCode::SUCCESS } else { ExitCode::FAILURE }
+    if tally.different == 0 {
+        ExitCode::SUCCESS
+    } else {
+        ExitCode::FAILURE
+    }
 }
 
 struct Wish {
@@ -85,7 +89,10 @@ impl Tally {
         println!("answers wanted: {}", sorts.join(", "));
         let Tally { compared, skipped, different, .. } = self;
         let matter = if wish.matter == "jobs" { "jobs" } else { "scripts" };
-        println!("{matter} seed {}: {compared} compared, {skipped} skipped, {different} different", wish.seed);
+        println!(
+            "{matter} seed {}: {compared} compared, {skipped} skipped, {different} different",
+            wish.seed
+        );
     }
 }
 

@@ -34,7 +34,11 @@ fn main() -> ExitCode {
         return ExitCode::from(2);
     };
     let different = compare(count, seed);
-    if different == 0 { ExitCode::SUCCESS } else { ExitCode::FAILURE }
+    if different == 0 {
+        ExitCode::SUCCESS
+    } else {
+        ExitCode::FAILURE
+    }
 }
 
 fn wish() -> Option<(usize, u64)> {

@@ -2,12 +2,12 @@
 
 mod words;
 
-use crate::reference::filter::Filter;
-use crate::reference::graph::{Graph, Source};
-use crate::reference::job::job_call;
 use crate::reference::agreement::Scene;
+use crate::reference::filter::Filter;
+use crate::reference::graph::Graph;
+use crate::reference::job::job_call;
 use crate::reference::plan::{Plan, Shown};
-use crate::reference::refusal::{Fault, Stop, ILL_JOINTS, LOOK_OVER_LAYER, SHORT_BUFFER};
+use crate::reference::refusal::{Fault, Stop, ILL_JOINTS, LOOK_OVER_LAYER};
 use crate::reference::table::{Reader, Table};
 use crate::reference::walk::Found;
 
@@ -192,7 +192,6 @@ impl Desk {
             Ok(written) => format!("wrote {written}"),
             Err(number) => format!("declined {number}"),
         };
-        debug_assert!(told != format!("declined {SHORT_BUFFER}") || buffer.iter().all(|b| *b == UNTOUCHED));
         Ok(with_buffer(told, &buffer))
     }
 }
@@ -232,7 +231,7 @@ fn look(source: &str) -> Answer {
 }
 
 fn joined(source: &str, a: &str, b: &str) -> Answer {
-    let source: Source = words::source(source)?;
+    let source = words::source(source)?;
     let (a, b) = (words::number(a)?, words::number(b)?);
     Ok(yes_or_no(source.take().joined(a, b)))
 }

@@ -166,10 +166,7 @@ mod tests {
 
     #[test]
     fn filters() {
-        assert_eq!(
-            filter("joint+support*"),
-            Ok(Filter::Repeated(Box::new(Filter::of_a_job())))
-        );
+        assert_eq!(filter("joint+support*"), Ok(Filter::Repeated(Box::new(Filter::of_a_job()))));
         for word in ["", "*", "joint*+open", "joint++open", "+", "joints", "open**"] {
             assert!(filter(word).is_err(), "{word}");
         }

@@ -31,14 +31,14 @@ impl Book {
 
 fn tall_enough(kind: u8, height: u16, over_hob: u16) -> bool {
     let figure = match kind {
-        0 => 0,         // base
-        1 => 600,       // wall
-        2 => 1300,      // tall
-        3 => over_hob,  // hob
-        4 => 450,       // sink
-        5 => 900,       // oven housing
-        6 => 0,         // corner
-        7 => 300,       // shelf
+        0 => 0,        // base
+        1 => 600,      // wall
+        2 => 1300,     // tall
+        3 => over_hob, // hob
+        4 => 450,      // sink
+        5 => 900,      // oven housing
+        6 => 0,        // corner
+        7 => 300,      // shelf
         _ => return false,
     };
     height >= figure

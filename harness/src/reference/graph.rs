@@ -62,9 +62,7 @@ impl Source {
             return Graph::single_node();
         }
         match self {
-            Source::Table { rows, .. } => {
-                Graph::from_joined(rows.len(), |a, b| holds(rows[a], b))
-            }
+            Source::Table { rows, .. } => Graph::from_joined(rows.len(), |a, b| holds(rows[a], b)),
             Source::Grid { columns, levels } => {
                 Graph::from_joined(columns * levels, |a, b| neighbours(*columns, a, b))
             }
@@ -125,7 +123,10 @@ mod tests {
     #[test]
     fn grids_join_neighbours_only() {
         let grid = Source::Grid { columns: 3, levels: 2 };
-        assert_eq!(grid.take(), table(&[0b001010, 0b010101, 0b100010, 0b010001, 0b101010, 0b010100], 6).take());
+        assert_eq!(
+            grid.take(),
+            table(&[0b001010, 0b010101, 0b100010, 0b010001, 0b101010, 0b010100], 6).take()
+        );
         assert!(!Source::Grid { columns: 0, levels: 3 }.is_sound());
         assert!(!Source::Grid { columns: 13, levels: 5 }.is_sound());
         assert!(!Source::Grid { columns: 1 << 32, levels: 1 << 32 }.is_sound());

@@ -38,7 +38,9 @@ pub struct Fault {
 pub enum Stop {
     Declined(u32),
     /// Refusal 9, which brings its tries.
-    NoPlacement { tries: u32 },
+    NoPlacement {
+        tries: u32,
+    },
     /// Not a rule: the reference gave up, so there is nothing to compare.
     TooLong,
 }

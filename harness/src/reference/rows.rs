@@ -11,7 +11,11 @@ pub fn holds(row: u64, bay: usize) -> bool {
 
 /// The row of all bays below `count`; a shift by 64 would overflow.
 pub fn all_below(count: usize) -> u64 {
-    if count >= 64 { u64::MAX } else { only(count) - 1 }
+    if count >= 64 {
+        u64::MAX
+    } else {
+        only(count) - 1
+    }
 }
 
 /// The bays of a row, rising.
