@@ -4,3 +4,4 @@ pub mod Orders
 pub mod Deciding
 pub mod Listings
 pub mod Worked
+pub mod Counting

@@ -7,14 +7,13 @@ use Prim.Native.Nat.{ℕ, zero, suc, _+_, _-_, _<_, _≤_}
 use native.Mathlib.Omega.{arith}
 use lib.ListN.{length, getD}
 use Rattle.std.specs.Orderings.{Decides}
-use Rattle.std.specs.declared.option.Option.{Option}
 use Rattle.std.proofs.shelf.Lists.{length-append, length-map, getD-append-left, getD-append-right, getD-map, nil-from-length}
 use Rattle.std.proofs.shelf.Tests.{cases-eq, cases-lt, both-ways}
 use Rattle.graphs.specs.Graph.{Graph}
 use Rattle.placements.specs.Placement.{Placement}
-use Rattle.placements.specs.Order.{Before, IsFirst, Answers, Lists}
+use Rattle.placements.specs.Order.{Before, Answers, Lists}
 use Rattle.placements.specs.Tests.{placement-test}
-use Rattle.placements.specs.Listing.{Passes, headed, listing, first-of, find}
+use Rattle.placements.specs.Listing.{Passes, headed, listing, find, ListingIsAll, FindIsFirst}
 use Rattle.placements.proofs.Orders.{before-cons, before-heads, lists-like, lists-none, lists-answers, Member}
 use Rattle.placements.proofs.Deciding.{placement-decides}
 
@@ -24,9 +23,11 @@ member-left : (xs ys : List (List ℕ)) (w : List ℕ) → Member xs w → Membe
 member-left xs ys w (i, l, e) = (i, omega (arith, length-append xs ys), getD-append-left xs ys [] i l ∙ e)
 
 member-right : (xs ys : List (List ℕ)) (w : List ℕ) → Member ys w → Member (xs ++ ys) w
-member-right xs ys w (i, l, e) =
-    (length xs + i, omega (arith, length-append xs ys),
-     getD-append-right xs ys (length xs) (length xs + i) [] refl (omega arith) ∙ ap (λ k. getD ys k []) (let z : length xs + i - length xs ≡ i = omega arith in z) ∙ e)
+member-right xs ys w (i, l, e) = (
+  length xs + i,
+  omega (arith, length-append xs ys),
+  getD-append-right xs ys (length xs) (length xs + i) [] refl (omega arith) ∙ ap (λ k. getD ys k []) (let z : length xs + i - length xs ≡ i = omega arith in z) ∙ e,
+)
 
 -- what P and Q hold of together, where all of P stand before all of Q
 pub lists-append :
@@ -57,11 +58,11 @@ lists-append P Q R xs ys h k apart left right split = record {
     rising i j l z = elim (cases-lt j (length xs)) [
       | inl a ↦ moved (getD xs i []) (getD (xs ++ ys) i []) (getD xs j []) (getD (xs ++ ys) j []) (in-left i (omega arith)) (in-left j a) (h .rising i j l a)
       | inr b ↦ elim (cases-lt i (length xs)) [
-          | inl a ↦ moved (getD xs i []) (getD (xs ++ ys) i []) (getD ys (j - length xs) []) (getD (xs ++ ys) j []) (in-left i a) (in-right j b)
-              (apart (getD xs i []) (getD ys (j - length xs) []) (h .sound i a) (k .sound (j - length xs) (omega (arith, length-append xs ys))))
-          | inr c ↦ moved (getD ys (i - length xs) []) (getD (xs ++ ys) i []) (getD ys (j - length xs) []) (getD (xs ++ ys) j []) (in-right i c) (in-right j b)
-              (k .rising (i - length xs) (j - length xs) (omega arith) (omega (arith, length-append xs ys)))
-        ]
+        | inl a ↦ moved (getD xs i []) (getD (xs ++ ys) i []) (getD ys (j - length xs) []) (getD (xs ++ ys) j []) (in-left i a) (in-right j b)
+            (apart (getD xs i []) (getD ys (j - length xs) []) (h .sound i a) (k .sound (j - length xs) (omega (arith, length-append xs ys))))
+        | inr c ↦ moved (getD ys (i - length xs) []) (getD (xs ++ ys) i []) (getD ys (j - length xs) []) (getD (xs ++ ys) j []) (in-right i c) (in-right j b)
+            (k .rising (i - length xs) (j - length xs) (omega arith) (omega (arith, length-append xs ys)))
+      ]
     ]
 
 -- all of P behind one number
@@ -118,7 +119,7 @@ headed-lists m n test f each b zero l = lists-none (Begins m n test b 0) (λ w h
 headed-lists m n test f each b (suc k) l =
     lists-append (λ v. Passes (suc m) n test v × (getD v 0 0 ≡ b)) (Begins m n test (suc b) k) (Begins m n test b (suc k)) (map (λ w. b ∷ w) (f b)) (headed f (suc b) k)
     (lists-behind (Passes m n (λ w. test (b ∷ w))) (λ v. Passes (suc m) n test v × (getD v 0 0 ≡ b)) b (f b) (each b)
-      (λ w h. (passes-cons m n test b w (omega arith) h, refl)) (λ v h. passes-rest m n test b v (h .0) (h .1)))
+    (λ w h. (passes-cons m n test b w (omega arith) h, refl)) (λ v h. passes-rest m n test b v (h .0) (h .1)))
     (headed-lists m n test f each (suc b) k (omega arith))
     (λ v w h g. begins-before m n test k b v w (h .0) (h .1) g)
     (λ w h. record { passes = h .0; from = omega (arith, h .1); upto = omega (arith, h .1) })
@@ -137,7 +138,7 @@ nothing n test true e = record { rising = λ i j l z. absurd (omega arith); soun
     sound (suc i) l = absurd (omega arith)
 nothing n test false e = lists-none (Passes 0 n test) (λ w h. both-ways (test []) e (ap test (sym (nil-from-length w (h .whole))) ∙ h .passes))
 
-pub listing-lists : (m n : ℕ) (test : List ℕ → Bool) → Lists (Passes m n test) (listing m n test)
+pub listing-lists : ListingIsAll
 unfolding listing
 listing-lists zero n test = nothing n test (test []) refl
 listing-lists (suc m) n test =
@@ -146,7 +147,7 @@ listing-lists (suc m) n test =
     (headed (λ b. listing m n (λ w. test (b ∷ w))) 0 n)
     (headed-lists m n test (λ b. listing m n (λ w. test (b ∷ w))) (λ b. listing-lists m n (λ w. test (b ∷ w))) 0 n (omega arith))
 
-pub find-answers : (m n : ℕ) (test : List ℕ → Bool) → Answers (Passes m n test) (find m n test)
+pub find-answers : FindIsFirst
 find-answers m n test = lists-answers (Passes m n test) (listing m n test) (listing-lists m n test)
 
 -- ---- a property that a test decides, of lists of m numbers below n

@@ -1,17 +1,17 @@
 -- Placements are monomorphisms, and strict ones isomorphisms onto induced subgraphs. Assumes nothing.
 use mathlib.Core.Path.{_≡_, refl, sym, ap, ap₂, subst, _∙_}
-use mathlib.Core.Bool.{Bool, true, false, not, cond, _&&_, _||_}
+use mathlib.Core.Bool.{Bool, true, false, not, _&&_, _||_}
 use mathlib.Core.List.{List}
-use mathlib.Core.Logic.{_⊎_, inl, inr, ⊎-elim}
-use Prim.Native.Nat.{ℕ, zero, suc, _+_, _<_, _≤_}
+use mathlib.Core.Logic.{inl, inr}
+use Prim.Native.Nat.{ℕ, zero, suc, _<_}
 use native.Mathlib.Omega.{arith}
-use lib.Dec.{eqb, ltb}
+use lib.Dec.{eqb}
 use lib.ListN.{length, getD}
-use Rattle.std.proofs.shelf.Tests.{cases-eq, cases-lt, cases-bool, and-parts, and-from, both-ways, eq-eqb, ne-eqb, eqb-true, eqb-false, not-true, not-from-false, ltb-true, lt-ltb, or-cases, or-left, or-right}
+use Rattle.std.proofs.shelf.Tests.{cases-eq, cases-bool, and-parts, and-from, both-ways, eq-eqb, ne-eqb, eqb-true, eqb-false, not-true, not-from-false, or-cases, or-left, or-right}
 use Rattle.graphs.specs.Graph.{Graph, Sound, Symmetric}
-use Rattle.placements.specs.Agreement.{half, agrees-if, agrees}
+use Rattle.placements.specs.Agreement.{half, agrees}
 use Rattle.placements.specs.Placement.{Placement}
-use Rattle.placements.specs.Morphisms.{Mono, joined-in, Induced, AgreeOnce, AgreementOnce, OpenIsMono, StrictIsInduced}
+use Rattle.placements.specs.Morphisms.{Mono, Induced, AgreeOnce, AgreementOnce, OpenIsMono, StrictIsInduced}
 
 -- ---- one direction of a joint
 
@@ -50,15 +50,16 @@ agree-from a r sa sr strict u b v c h =
     and-from (not (eqb b c)) (half strict (a .joined u v) (r .joined b c) && half strict (a .joined v u) (r .joined c b))
     (not-from-false (eqb b c) (ne-eqb b c (h .differ)))
     (and-from (half strict (a .joined u v) (r .joined b c)) (half strict (a .joined v u) (r .joined c b)) out
-      (ap₂ (half strict) (sa .both v u) (sr .both c b) ∙ out))
+    (ap₂ (half strict) (sa .both v u) (sr .both c b) ∙ out))
   where
     out : half strict (a .joined u v) (r .joined b c) ≡ true
     out = half-from strict (a .joined u v) (r .joined b c) (h .joins) (h .parts)
 
 pub agreement-once : AgreementOnce
-agreement-once a r sa sr strict u b v c =
-    (λ h. record { differ = agree-differ a r strict u b v c h; joins = agree-joins a r strict u b v c h; parts = agree-parts a r strict u b v c h },
-     agree-from a r sa sr strict u b v c)
+agreement-once a r sa sr strict u b v c = (
+  λ h. record { differ = agree-differ a r strict u b v c h; joins = agree-joins a r strict u b v c h; parts = agree-parts a r strict u b v c h },
+  agree-from a r sa sr strict u b v c,
+)
 
 -- ---- placements
 
@@ -82,13 +83,14 @@ placement-from a r sa sr strict w long f parts = record {
   whole = long;
   on-bays = f .into;
   agree = λ u v lu lv ne. agree-from a r sa sr strict u (getD w u 0) v (getD w v 0)
-    (record { differ = λ e. ne (f .injective u v lu lv e); joins = f .keeps u v lu lv; parts = parts u v lu lv });
+      (record { differ = λ e. ne (f .injective u v lu lv e); joins = f .keeps u v lu lv; parts = parts u v lu lv });
 }
 
 pub open-is-mono : OpenIsMono
-open-is-mono a r sa sr ya yr w long =
-    (λ p. placement-mono a r false w p sa,
-     λ f. placement-from a r ya yr false w long f (λ u v lu lv e. absurd (both-ways false refl e)))
+open-is-mono a r sa sr ya yr w long = (
+  λ p. placement-mono a r false w p sa,
+  λ f. placement-from a r ya yr false w long f (λ u v lu lv e. absurd (both-ways false refl e)),
+)
 
 -- the image of the numbers below k
 image : ℕ → (ℕ → ℕ) → ℕ → Bool
@@ -122,9 +124,9 @@ module _ (a r : Graph) (w : List ℕ) (sa : Sound a) (sr : Sound r) (p : Placeme
       elim (cases-eq u v) [
         | inl e ↦ ap (a .joined u) (sym e) ∙ sa .irreflexive u ∙ sym (ap (λ x. r .joined (getD w u 0) (getD w x 0)) (sym e) ∙ sr .irreflexive (getD w u 0))
         | inr ne ↦ elim (cases-bool (a .joined u v)) [
-            | inl t ↦ t ∙ sym (placement-joins a r true w p sa u v lu lv t)
-            | inr f ↦ f ∙ sym (agree-parts a r true u (getD w u 0) v (getD w v 0) (p .agree u v lu lv ne) refl f)
-          ]
+          | inl t ↦ t ∙ sym (placement-joins a r true w p sa u v lu lv t)
+          | inr f ↦ f ∙ sym (agree-parts a r true u (getD w u 0) v (getD w v 0) (p .agree u v lu lv ne) refl f)
+        ]
       ]
 
   placement-induced : Induced a r (λ u. getD w u 0)
@@ -135,7 +137,7 @@ module _ (a r : Graph) (w : List ℕ) (sa : Sound a) (sr : Sound r) (p : Placeme
     injective = placement-injective a r true w p;
     onto = image-in (a .count) (λ u. getD w u 0);
     same = λ u v lu lv. same-joints u v lu lv
-      ∙ both-in _ _ (r .joined (getD w u 0) (getD w v 0)) (image-of (a .count) (λ u. getD w u 0) u lu) (image-of (a .count) (λ u. getD w u 0) v lv);
+        ∙ both-in _ _ (r .joined (getD w u 0) (getD w v 0)) (image-of (a .count) (λ u. getD w u 0) u lu) (image-of (a .count) (λ u. getD w u 0) v lv);
   }
 
 module _ (a r : Graph) (f : ℕ → ℕ) (i : Induced a r f) (u v : ℕ) (lu : u < a .count) (lv : v < a .count) where
@@ -143,12 +145,13 @@ module _ (a r : Graph) (f : ℕ → ℕ) (i : Induced a r f) (u v : ℕ) (lu : u
   induced-same = i .same u v lu lv ∙ sym (both-in _ _ (r .joined (f u) (f v)) (i .into u lu) (i .into v lv))
 
 pub strict-is-induced : StrictIsInduced
-strict-is-induced a r sa sr ya yr w long =
-    (placement-induced a r w sa sr,
-     λ i. placement-from a r ya yr true w long
-       (record {
-         into = λ u lu. i .of-room (getD w u 0) (i .into u lu);
-         injective = i .injective;
-         keeps = λ u v lu lv e. sym (induced-same a r (λ u. getD w u 0) i u v lu lv) ∙ e;
-       })
-       (λ u v lu lv s e. sym (induced-same a r (λ u. getD w u 0) i u v lu lv) ∙ e))
+strict-is-induced a r sa sr ya yr w long = (
+  placement-induced a r w sa sr,
+  λ i. placement-from a r ya yr true w long
+      (record {
+        into = λ u lu. i .of-room (getD w u 0) (i .into u lu);
+        injective = i .injective;
+        keeps = λ u v lu lv e. sym (induced-same a r (λ u. getD w u 0) i u v lu lv) ∙ e;
+      })
+      (λ u v lu lv s e. sym (induced-same a r (λ u. getD w u 0) i u v lu lv) ∙ e),
+)

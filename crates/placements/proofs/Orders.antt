@@ -2,7 +2,7 @@
 use mathlib.Core.Path.{_≡_, refl, sym, ap, subst, _∙_}
 use mathlib.Core.List.{List, [], _∷_}
 use mathlib.Core.Logic.{_⊎_, inl, inr}
-use Prim.Native.Nat.{ℕ, zero, suc, _+_, _<_, _≤_}
+use Prim.Native.Nat.{ℕ, zero, suc, _<_}
 use native.Mathlib.Omega.{arith}
 use lib.ListN.{length, getD}
 use Rattle.std.specs.declared.option.Option.{Option}
@@ -20,23 +20,23 @@ pub before-transitive : (v w x : List ℕ) → Before v w → Before w x → Bef
 before-transitive v w x h k =
     elim (cases-order (h .unit) (k .unit)) [
       | inl e ↦ record {
-          unit = k .unit;
-          below = k .below;
-          same = λ i l. h .same i (omega arith) ∙ k .same i l;
-          lower = let P : ℕ → Type 0 = λ i. getD v i 0 < getD w i 0 in let a : getD v (k .unit) 0 < getD w (k .unit) 0 = subst P e (h .lower) in omega (arith, k .lower);
-        }
+        unit = k .unit;
+        below = k .below;
+        same = λ i l. h .same i (omega arith) ∙ k .same i l;
+        lower = let P : ℕ → Type 0 = λ i. getD v i 0 < getD w i 0 in let a : getD v (k .unit) 0 < getD w (k .unit) 0 = subst P e (h .lower) in omega (arith, k .lower);
+      }
       | inr (inl l) ↦ record {
-          unit = h .unit;
-          below = omega (arith, k .below);
-          same = λ i j. h .same i j ∙ k .same i (omega arith);
-          lower = omega (arith, h .lower, k .same (h .unit) l);
-        }
+        unit = h .unit;
+        below = omega (arith, k .below);
+        same = λ i j. h .same i j ∙ k .same i (omega arith);
+        lower = omega (arith, h .lower, k .same (h .unit) l);
+      }
       | inr (inr l) ↦ record {
-          unit = k .unit;
-          below = k .below;
-          same = λ i j. h .same i (omega arith) ∙ k .same i j;
-          lower = omega (arith, k .lower, h .same (k .unit) l);
-        }
+        unit = k .unit;
+        below = k .below;
+        same = λ i j. h .same i (omega arith) ∙ k .same i j;
+        lower = omega (arith, k .lower, h .same (k .unit) l);
+      }
     ]
 
 pub before-asymmetric : (v w : List ℕ) → Before v w → Before w v → ⊥
@@ -60,10 +60,10 @@ before-total (x ∷ v) [] e = absurd (omega arith)
 before-total (x ∷ v) (y ∷ w) e =
     elim (cases-order x y) [
       | inl z ↦ elim (before-total v w (omega arith)) [
-          | inl s ↦ inl (λ i. z i ∷ s i)
-          | inr (inl l) ↦ inr (inl (subst (λ c. Before (x ∷ v) (c ∷ w)) z (before-cons x v w l)))
-          | inr (inr l) ↦ inr (inr (subst (λ c. Before (c ∷ w) (x ∷ v)) z (before-cons x w v l)))
-        ]
+        | inl s ↦ inl (λ i. z i ∷ s i)
+        | inr (inl l) ↦ inr (inl (subst (λ c. Before (x ∷ v) (c ∷ w)) z (before-cons x v w l)))
+        | inr (inr l) ↦ inr (inr (subst (λ c. Before (c ∷ w) (x ∷ v)) z (before-cons x w v l)))
+      ]
       | inr (inl l) ↦ inr (inl (before-heads x y v w l))
       | inr (inr l) ↦ inr (inr (before-heads y x w v l))
     ]
@@ -151,7 +151,7 @@ lists-unique P (x ∷ xs) [] h k = absurd (lists-empty P k x (h .sound 0 (omega 
 lists-unique P (x ∷ xs) (y ∷ ys) h k =
     let e : x ≡ y = first-unique P x y (lists-first P x xs h) (lists-first P y ys k) in
     let rest : xs ≡ ys = lists-unique (λ w. P w × Before x w) xs ys (lists-rest P x xs h)
-          (subst (λ z. Lists (λ w. P w × Before z w) ys) (sym e) (lists-rest P y ys k)) in
+    (subst (λ z. Lists (λ w. P w × Before z w) ys) (sym e) (lists-rest P y ys k)) in
     λ i. e i ∷ rest i
 
 -- w is one of ws

@@ -1,15 +1,10 @@
 -- Two joined units in a row of three bays, worked out. Assumes nothing.
 use mathlib.Core.Path.{_≡_, refl}
-use mathlib.Core.Bool.{Bool, true, false, _||_}
-use mathlib.Core.List.{List, [], _∷_}
-use Prim.Native.Nat.{ℕ, _+_}
-use lib.Dec.{eqb}
-use lib.ListN.{getD}
-use Rattle.std.specs.declared.option.Option.{Option}
+use mathlib.Core.Bool.{true, false}
+use mathlib.Core.List.{[], _∷_}
 use Rattle.std.specs.declared.option.Option.the-variants.{Some, None}
-use Rattle.graphs.specs.Graph.{Graph}
 use Rattle.graphs.specs.WallGrid.{wall-graph}
-use Rattle.placements.specs.Tests.{each-below, some-below, placement-test}
+use Rattle.placements.specs.Tests.{each-below, placement-test}
 use Rattle.placements.specs.Listing.{headed, listing, find}
 
 open-use : listing 2 3 (placement-test (wall-graph 2 1) (wall-graph 3 1) false) ≡ (0 ∷ 1 ∷ []) ∷ (1 ∷ 0 ∷ []) ∷ (1 ∷ 2 ∷ []) ∷ (2 ∷ 1 ∷ []) ∷ []

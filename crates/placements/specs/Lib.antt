@@ -4,3 +4,4 @@ pub mod Order
 pub mod Morphisms
 pub mod Tests
 pub mod Listing
+pub mod Counting

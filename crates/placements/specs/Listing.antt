@@ -6,6 +6,7 @@ use Prim.Native.Nat.{ℕ, zero, suc, _<_}
 use lib.ListN.{length, getD}
 use Rattle.std.specs.declared.option.Option.{Option}
 use Rattle.std.specs.declared.option.Option.the-variants.{Some, None}
+use Rattle.placements.specs.Order.{Answers, Lists}
 
 -- w is a list of m numbers below n that passes
 pub record Passes (m n : ℕ) (test : List ℕ → Bool) (w : List ℕ) : Type 0 where
@@ -23,6 +24,7 @@ unfoldable pub listing : ℕ → ℕ → (List ℕ → Bool) → List (List ℕ)
 listing zero n test = cond (test []) ([] ∷ []) []
 listing (suc m) n test = headed (λ b. listing m n (λ w. test (b ∷ w))) 0 n
 
+-- the head of the list, where it has one
 abbrev pub first-of : List (List ℕ) → Option (List ℕ)
 first-of [] = None
 first-of (w ∷ ws) = Some w
@@ -30,3 +32,11 @@ first-of (w ∷ ws) = Some w
 -- the first list of m numbers below n that passes
 abbrev pub find : ℕ → ℕ → (List ℕ → Bool) → Option (List ℕ)
 find m n test = first-of (listing m n test)
+
+-- theorem: the listing is all lists that pass, in dictionary order
+abbrev pub ListingIsAll : Type 0
+ListingIsAll = (m n : ℕ) (test : List ℕ → Bool) → Lists (Passes m n test) (listing m n test)
+
+-- theorem: the find is the first of them, and none exactly where there is none
+abbrev pub FindIsFirst : Type 0
+FindIsFirst = (m n : ℕ) (test : List ℕ → Bool) → Answers (Passes m n test) (find m n test)

@@ -47,7 +47,7 @@ OpenIsMono =
     (a r : Graph) → Sound a → Sound r → Symmetric a → Symmetric r → (w : List ℕ) → length w ≡ a .count
     → Placement a r false w ↔ Mono a r (λ u. getD w u 0)
 
--- theorem: and in strict use exactly where it is an isomorphism onto a subgraph that the room has induced
+-- theorem: and in strict use exactly where it is an isomorphism onto the subgraph that its bays induce in the room
 abbrev pub StrictIsInduced : Type 0
 StrictIsInduced =
     (a r : Graph) → Sound a → Sound r → Symmetric a → Symmetric r → (w : List ℕ) → length w ≡ a .count

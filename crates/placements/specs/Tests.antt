@@ -18,10 +18,13 @@ unfoldable pub some-below : ℕ → (ℕ → Bool) → Bool
 some-below zero p = false
 some-below (suc n) p = p n || some-below n p
 
+-- u and v are one unit, or their bays agree
+abbrev pub pair-test : Graph → Graph → Bool → List ℕ → ℕ → ℕ → Bool
+pair-test a r strict w u v = eqb u v || agrees a r strict u (getD w u 0) v (getD w v 0)
+
 -- the bay of the unit u is in the room, and agrees with the bay of each other unit
 abbrev pub unit-test : Graph → Graph → Bool → List ℕ → ℕ → Bool
-unit-test a r strict w u =
-    ltb (getD w u 0) (r .count) && each-below (a .count) (λ v. eqb u v || agrees a r strict u (getD w u 0) v (getD w v 0))
+unit-test a r strict w u = ltb (getD w u 0) (r .count) && each-below (a .count) (pair-test a r strict w u)
 
 -- w is a placement
 abbrev pub placement-test : Graph → Graph → Bool → List ℕ → Bool

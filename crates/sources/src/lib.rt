@@ -6,6 +6,9 @@ mod tests;
 mod wall;
 
 pub use fault::JointFault;
+pub use fault::JointFaultDebug;
+pub use fault::JointFaultEq;
+pub use fault::JointFaultPartialEq;
 pub use table::JointTable;
 pub use table::JointTableSource;
 pub use wall::WallGrid;

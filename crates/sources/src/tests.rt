@@ -1,4 +1,6 @@
 use crate::JointFault;
+use crate::JointFaultDebug;
+use crate::JointFaultPartialEq;
 use crate::JointTable;
 use crate::JointTableSource;
 use crate::WallGrid;

@@ -37,7 +37,10 @@ impl WallGrid {
     {
         match WallGrid::look_over(columns, levels) {
             Ok(()) => WallGrid { columns, levels },
-            Err(_) => WallGrid { columns: 1, levels: 1 },
+            Err(_) => WallGrid {
+                columns: 1,
+                levels: 1,
+            },
         }
     }
 

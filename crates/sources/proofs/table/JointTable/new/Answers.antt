@@ -10,6 +10,6 @@ pub ghost-result : need.ghost-result
 ghost-result c =
     let P : RefT (List ℕ) × Unit {0} → Type 0 = λ t. Kept (now (t .0)) in
     elim (c .match-look-over .came) [
-      | in-Ok w ↦ subst P (sym (w .result-is)) (kept-lawful (c .args .rows .now) (c .args .columns) (w .in-Ok .ensures tt))
+      | in-Ok w ↦ subst P (sym (w .result-is)) (kept-lawful (c .args .rows .now) _ (w .in-Ok .ensures tt))
       | in-Err w ↦ subst P (sym (w .result-is)) kept-lone
     ]
