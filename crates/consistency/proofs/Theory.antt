@@ -199,7 +199,7 @@ greatest-one a r k shown xs ys e x y =
     (λ u l. same-rows (r .count) (getD xs u 0) (getD ys u 0) (all-below-at (r .count) xs (sx .rest) u) (all-below-at (r .count) ys (sy .rest) u)
     (λ b. bool-ext (bit (getD xs u 0) b) (bit (getD ys u 0) b) (y .most xs (x .inside) (x .supported) u b) (x .most ys (y .inside) (y .supported) u b)))
 
--- what the greatest supported rows are to the sieve's meaning
+-- the greatest supported rows are what the filter leaves
 pub meaning-is : (a r : Graph) (k : Bool) (shown rows : List ℕ) → shaped a r shown ≡ true → Greatest a r k shown rows → rows ≡ support-meaning a r k shown
 meaning-is a r k shown rows e h = greatest-one a r k shown rows (support-meaning a r k shown) e h (support-greatest a r k shown e)
 
