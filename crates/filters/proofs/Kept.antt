@@ -1,0 +1,123 @@
+-- Filters by a test on pairs: they are lawful where the test passes on every pair of every placement. Assumes nothing.
+use mathlib.Core.Path.{_≡_, refl, sym, ap, subst, _∙_}
+use mathlib.Core.Bool.{Bool, true, false, _&&_, cond}
+use mathlib.Core.List.{List, [], _∷_}
+use mathlib.Core.Logic.{_⊎_, inl, inr}
+use Prim.Native.Nat.{ℕ, zero, suc, _+_, _≤_, _<_}
+use native.Mathlib.Omega.{arith}
+use lib.Dec.{ltb}
+use lib.ListN.{length, getD}
+use Rattle.std.proofs.shelf.Lists.{getD-past, ext-getD}
+use Rattle.std.proofs.shelf.Tests.{both-ways, cases-lt, cases-bool, cond-true, cond-false, and-parts, and-from, and-right, lt-ltb}
+use Rattle.graphs.specs.Rows.{bit, row-of, rows-of, Pairs, pairs}
+use Rattle.graphs.specs.Graph.{Graph, Sound}
+use Rattle.graphs.proofs.Bits.{bit-none}
+use Rattle.graphs.proofs.Rows.{bit-row-of, row-is}
+use Rattle.placements.specs.Placement.{Placement, Within}
+use Rattle.filters.specs.Filter.{shaped, Lawful, Meaning, Inside, CutFrom, Resumes}
+use Rattle.filters.specs.Kept.{PairTest, kept-rows}
+use Rattle.filters.proofs.Shapes.{Shape, shape-of, bit-unit, shaped-kept}
+
+pub rows-of-length : (m n : ℕ) (p : Pairs) → length (rows-of m n p) ≡ m
+unfolding rows-of
+rows-of-length zero n p = refl
+rows-of-length (suc m) n p = ap suc (rows-of-length m n (λ u. p (suc u)))
+
+pub rows-of-at : (m n : ℕ) (p : Pairs) (u : ℕ) → u < m → getD (rows-of m n p) u 0 ≡ row-of n (p u)
+unfolding rows-of
+rows-of-at zero n p u l = absurd (omega arith)
+rows-of-at (suc m) n p zero l = refl
+rows-of-at (suc m) n p (suc u) l = rows-of-at m n (λ v. p (suc v)) u (omega arith)
+
+pub rows-of-bit : (m n : ℕ) (p : Pairs) (u b : ℕ) → u < m → b < n → pairs (rows-of m n p) u b ≡ p u b
+rows-of-bit m n p u b lu lb =
+    ap (λ (x : ℕ). bit x b) (rows-of-at m n p u lu) ∙ bit-row-of n (p u) b ∙ ap (λ (t : Bool). t && p u b) (lt-ltb b n lb)
+
+-- a pair of such rows passes
+pub rows-of-pair : (m n : ℕ) (p : Pairs) (u b : ℕ) → pairs (rows-of m n p) u b ≡ true → p u b ≡ true
+rows-of-pair m n p u b t =
+    let l : u < m = omega (arith, bit-unit (rows-of m n p) u b t, rows-of-length m n p) in
+    and-parts (ltb b n) (p u b) (sym (bit-row-of n (p u) b) ∙ sym (ap (λ (x : ℕ). bit x b) (rows-of-at m n p u l)) ∙ t) .1
+
+module _ (test : PairTest) (a r : Graph) (k : Bool) (rows : List ℕ) where
+  shaped-is : shaped a r rows ≡ true → kept-rows test a r k rows ≡ rows-of (a .count) (r .count) (λ u b. pairs rows u b && test a r k u b)
+  shaped-is e = cond-true (shaped a r rows) _ rows e
+
+  ill-is : shaped a r rows ≡ false → kept-rows test a r k rows ≡ rows
+  ill-is e = cond-false (shaped a r rows) _ rows e
+
+  as-many-is : length (kept-rows test a r k rows) ≡ length rows
+  as-many-is =
+      elim (cases-bool (shaped a r rows)) [
+        | inl e ↦ ap length (shaped-is e) ∙ rows-of-length (a .count) (r .count) (λ u b. pairs rows u b && test a r k u b) ∙ sym (shape-of a r rows e .many)
+        | inr e ↦ ap length (ill-is e)
+      ]
+
+  -- a pair that is kept was there and passes
+  pub kept-pair : shaped a r rows ≡ true → (u b : ℕ) → pairs (kept-rows test a r k rows) u b ≡ true → (pairs rows u b ≡ true) × (test a r k u b ≡ true)
+  kept-pair e u b t =
+      and-parts (pairs rows u b) (test a r k u b)
+      (rows-of-pair (a .count) (r .count) (λ v c. pairs rows v c && test a r k v c) u b (sym (ap (λ (xs : List ℕ). pairs xs u b) (shaped-is e)) ∙ t))
+
+  adds-none-is : Inside (kept-rows test a r k rows) rows
+  adds-none-is u b t =
+      elim (cases-bool (shaped a r rows)) [
+        | inl e ↦ kept-pair e u b t .0
+        | inr e ↦ sym (ap (λ (xs : List ℕ). pairs xs u b) (ill-is e)) ∙ t
+      ]
+
+  -- a pair that passes is kept
+  pub pair-kept : (u b : ℕ) → pairs rows u b ≡ true → test a r k u b ≡ true → pairs (kept-rows test a r k rows) u b ≡ true
+  pair-kept u b t p =
+      elim (cases-bool (shaped a r rows)) [
+        | inl e ↦
+            let s = shape-of a r rows e in
+            ap (λ (xs : List ℕ). pairs xs u b) (shaped-is e)
+            ∙ rows-of-bit (a .count) (r .count) (λ v c. pairs rows v c && test a r k v c) u b (s .unit u b t) (s .under u b t)
+            ∙ and-from (pairs rows u b) (test a r k u b) t p
+        | inr e ↦ ap (λ (xs : List ℕ). pairs xs u b) (ill-is e) ∙ t
+      ]
+
+  -- rows that hold, unit for unit, the pairs that pass
+  pub are-kept : (left : List ℕ) → shaped a r rows ≡ true → length left ≡ length rows
+      → ((u b : ℕ) → u < a .count → bit (getD left u 0) b ≡ (bit (getD rows u 0) b && test a r k u b)) → left ≡ kept-rows test a r k rows
+  are-kept left e m h =
+      let s = shape-of a r rows e in
+      ext-getD 0 left (rows-of (a .count) (r .count) (λ u b. pairs rows u b && test a r k u b)) (m ∙ s .many ∙ sym (rows-of-length (a .count) (r .count) (λ u b. pairs rows u b && test a r k u b)))
+      (λ u l.
+        let lu : u < a .count = omega (arith, s .many) in
+        row-is (r .count) (getD left u 0) (λ b. pairs rows u b && test a r k u b) (λ b. h u b lu ∙ under-too s u b)
+        ∙ sym (rows-of-at (a .count) (r .count) (λ v c. pairs rows v c && test a r k v c) u lu))
+      ∙ sym (shaped-is e)
+    where
+      under-too : Shape a r rows → (u b : ℕ) → (pairs rows u b && test a r k u b) ≡ (ltb b (r .count) && (pairs rows u b && test a r k u b))
+      under-too s u b =
+          elim (cases-bool (pairs rows u b && test a r k u b)) [
+            | inl t ↦ t ∙ sym (and-from (ltb b (r .count)) (pairs rows u b && test a r k u b) (lt-ltb b (r .count) (s .under u b (and-parts (pairs rows u b) (test a r k u b) t .0))) t)
+            | inr t ↦ t ∙ sym (and-right (ltb b (r .count)) (pairs rows u b && test a r k u b) t)
+          ]
+
+-- the test passes on every pair of every placement
+abbrev pub Spares : PairTest → Type 0
+Spares test =
+    (a r : Graph) (strict : Bool) (w : List ℕ) → Sound a → Sound r → Placement a r strict w
+    → (u : ℕ) → u < a .count → test a r strict u (getD w u 0) ≡ true
+
+pub kept-lawful : (test : PairTest) → Spares test → Lawful (kept-rows test)
+kept-lawful test spares = record {
+  as-many = λ a r k rows. as-many-is test a r k rows;
+  adds-none = λ a r k rows. adds-none-is test a r k rows;
+  keeps = λ a r k rows w sa sr p h u l. pair-kept test a r k rows u (getD w u 0) (h u l) (spares a r k w sa sr p u (omega (arith, p .whole)));
+  leaves = λ a r k rows. ill-is test a r k rows;
+}
+
+-- rows cut from rows that the filter has left all pass: there is nothing to take away
+pub kept-resumes : (test : PairTest) (a r : Graph) (k : Bool) (changed : ℕ) (rows : List ℕ) → Resumes (kept-rows test) a r k changed rows rows
+kept-resumes test a r k changed rows before s c =
+    let inside : Inside rows before = λ u b t. adds-none-is test a r k before u b (c .inside u b t) in
+    are-kept test a r k rows rows
+    (shaped-kept a r before rows s (c .as-many ∙ as-many-is test a r k before) inside) refl
+    (λ u b l. elim (cases-bool (bit (getD rows u 0) b)) [
+      | inl t ↦ t ∙ sym (and-from (bit (getD rows u 0) b) (test a r k u b) t (kept-pair test a r k before s u b (c .inside u b t) .1))
+      | inr t ↦ t ∙ sym (ap (λ (x : Bool). x && test a r k u b) t)
+    ])
