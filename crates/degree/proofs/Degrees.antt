@@ -1,24 +1,24 @@
 -- The degrees of a sound graph, and rows of the nodes by their degrees. Assumes nothing.
-use mathlib.Core.Path.{_≡_, refl, sym, ap, subst, _∙_}
+use mathlib.Core.Path.{_≡_, refl, sym, ap, ap₂, subst, _∙_}
 use mathlib.Core.Bool.{Bool, true, false, _&&_, _||_, not, cond}
 use mathlib.Core.List.{List}
 use mathlib.Core.Logic.{_⊎_, inl, inr, _≢_}
 use Prim.Native.Nat.{ℕ, zero, suc, _+_, _-_, _*_, _%_, _^_, _≤_, _<_, zero-le}
 use native.Mathlib.Omega.{arith}
-use lib.Bits.{bitOr}
+use lib.Bits.{bitAnd, bitOr}
 use lib.Dec.{eqb, ltb, leb}
 use lib.ListN.{length, getD, set, replicate, length-set}
 use lib.Seq.{getD-set-same, getD-set-other}
 use Rattle.std.proofs.shelf.Lists.{length-replicate, getD-replicate}
-use Rattle.std.proofs.shelf.Tests.{cases-eq, cases-lt, eq-eqb, ne-eqb, and-from, and-left, lt-ltb}
+use Rattle.std.proofs.shelf.Tests.{cases-bool, cases-eq, cases-lt, eq-eqb, ne-eqb, and-left, or-left, not-from-false, lt-ltb}
 use Rattle.std.proofs.shelf.Ways.{tells}
 use Rattle.graphs.specs.Rows.{bit, row-of}
 use Rattle.graphs.specs.Graph.{Graph, Sound}
-use Rattle.graphs.proofs.Bits.{bit-or, bit-none}
-use Rattle.graphs.proofs.Rows.{Upto, upto-none, upto-set, upto-pass, bit-row-of, row-is}
-use Rattle.placements.proofs.Masks.{bit-full}
-use Rattle.degree.specs.Degree.{how-many, degree-within, all-nodes}
-use Rattle.degree.proofs.Counting.{many-same, many-less, many-le}
+use Rattle.graphs.proofs.Bits.{bit-and, bit-or, bit-none, bit-past}
+use Rattle.graphs.proofs.Rows.{Upto, upto-none, upto-set, upto-pass, bit-row-of}
+use Rattle.placements.proofs.Masks.{bit-full, bit-inverse}
+use Rattle.degree.specs.Degree.{degree-within, all-nodes, degree-test}
+use Rattle.degree.proofs.Counting.{many-same, many-less}
 
 -- all bits of a number of 64 bits are all nodes
 pub degree-full : (g : Graph) → Sound g → (a : ℕ) → degree-within g (bit 18446744073709551615) a ≡ degree-within g all-nodes a
@@ -99,3 +99,54 @@ summed-more n d k rows lk s =
     joined : (p q t : Bool) (e : ℕ) → p ≡ (t && eqb e k) → q ≡ (t && ltb e k) → (p || q) ≡ (t && ltb e (k + 1))
     joined p q true e h i = ap (λ (v : Bool). v || q) h ∙ ap (λ (v : Bool). eqb e k || v) i ∙ grind (arith, tells)
     joined p q false e h i = ap (λ (v : Bool). v || q) h ∙ i
+
+-- the bays of a row outside another
+pub bit-without : (row x b : ℕ) → row < 2 ^ 64 → x < 2 ^ 64 → bit (bitAnd row (18446744073709551615 - x)) b ≡ (bit row b && not (bit x b))
+bit-without row x b hr hx =
+    bit-and row (18446744073709551615 - x) b
+    ∙ elim (cases-lt b 64) [
+      | inl l ↦ ap (λ (t : Bool). bit row b && t) (bit-inverse x b hx l)
+      | inr l ↦
+          ap (λ (t : Bool). t && bit (18446744073709551615 - x) b) (bit-past row b 64 hr l)
+          ∙ sym (ap (λ (t : Bool). t && not (bit x b)) (bit-past row b 64 hr l))
+    ]
+
+-- what strictness adds
+pub in-open-use : (p q strict t : Bool) → strict ≡ false → (p && q) ≡ (p && (q && (not strict || t)))
+in-open-use false q strict t e = refl
+in-open-use true false strict t e = refl
+in-open-use true true strict t e = sym (or-left (not strict) t (not-from-false strict e))
+
+pub in-strict-use : (p q strict t : Bool) → strict ≡ true → ((p && q) && t) ≡ (p && (q && (not strict || t)))
+in-strict-use false q strict t e = refl
+in-strict-use true false strict t e = refl
+in-strict-use true true strict t e = sym (ap (λ (s : Bool). not s || t) e)
+
+-- the two rows of nodes with fewer joints decide the test
+pub rows-test : (a r : Graph) → Sound r → (k : Bool) (u b row x y : ℕ) → (bit row b ≡ true → b < r .count)
+    → x ≡ row-of (r .count) (λ c. ltb (degree-within r all-nodes c) (degree-within a all-nodes u))
+    → y ≡ row-of (r .count) (λ c. ltb (degree-within r all-nodes c) (r .count - (a .count - 1 - degree-within a all-nodes u)))
+    → (bit row b && (not (bit x b) && (not k || bit y b))) ≡ (bit row b && degree-test a r k u b)
+rows-test a r s k u b row x y under ex ey =
+    elim (cases-bool (bit row b)) [
+      | inl t ↦
+          let l = under t in
+          let d : ℕ = degree-within a all-nodes u in
+          let e : ℕ = degree-within r all-nodes b in
+          let less : e < r .count = degree-less r s b in
+          ap (λ (v : Bool). bit row b && v)
+          (ap₂ (λ (v w : Bool). not v && (not k || w)) (at x d l ex) (at y (r .count - (a .count - 1 - d)) l ey)
+          ∙ ap₂ (λ (v w : Bool). v && (not k || w)) (not-fewer d e) (not-many (a .count - 1 - d) e (r .count) less))
+      | inr f ↦
+          ap (λ (v : Bool). v && (not (bit x b) && (not k || bit y b))) f
+          ∙ sym (ap (λ (v : Bool). v && degree-test a r k u b) f)
+    ]
+  where
+    at : (z j : ℕ) → b < r .count → z ≡ row-of (r .count) (λ c. ltb (degree-within r all-nodes c) j) → bit z b ≡ ltb (degree-within r all-nodes b) j
+    at z j l q = ap (λ (v : ℕ). bit v b) q ∙ bit-row-of (r .count) (λ c. ltb (degree-within r all-nodes c) j) b ∙ ap (λ (v : Bool). v && ltb (degree-within r all-nodes b) j) (lt-ltb b (r .count) l)
+
+    not-fewer : (d e : ℕ) → not (ltb e d) ≡ leb d e
+    not-fewer d e = grind (arith, tells)
+
+    not-many : (z e n : ℕ) → e < n → ltb e (n - z) ≡ leb z (n - 1 - e)
+    not-many z e n l = grind (arith, tells)

@@ -1,2 +1,4 @@
 pub mod Counting
 pub mod Degrees
+pub mod Spared
+pub mod Rooms

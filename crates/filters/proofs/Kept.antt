@@ -1,21 +1,23 @@
 -- Filters by a test on pairs: they are lawful where the test passes on every pair of every placement. Assumes nothing.
-use mathlib.Core.Path.{_≡_, refl, sym, ap, subst, _∙_}
+use mathlib.Core.Path.{_≡_, refl, sym, ap, _∙_}
 use mathlib.Core.Bool.{Bool, true, false, _&&_, cond}
 use mathlib.Core.List.{List, [], _∷_}
 use mathlib.Core.Logic.{_⊎_, inl, inr}
 use Prim.Native.Nat.{ℕ, zero, suc, _+_, _≤_, _<_}
 use native.Mathlib.Omega.{arith}
 use lib.Dec.{ltb}
-use lib.ListN.{length, getD}
-use Rattle.std.proofs.shelf.Lists.{getD-past, ext-getD}
-use Rattle.std.proofs.shelf.Tests.{both-ways, cases-lt, cases-bool, cond-true, cond-false, and-parts, and-from, and-right, lt-ltb}
+use lib.Count.{ones}
+use lib.ListN.{length, getD, set, length-set}
+use lib.Seq.{getD-set-same, getD-set-other}
+use Rattle.std.proofs.shelf.Lists.{ext-getD}
+use Rattle.std.proofs.shelf.Tests.{cases-eq, cases-bool, cond-true, cond-false, and-parts, and-from, and-right, lt-ltb}
 use Rattle.graphs.specs.Rows.{bit, row-of, rows-of, Pairs, pairs}
 use Rattle.graphs.specs.Graph.{Graph, Sound}
-use Rattle.graphs.proofs.Bits.{bit-none}
 use Rattle.graphs.proofs.Rows.{bit-row-of, row-is}
-use Rattle.placements.specs.Placement.{Placement, Within}
-use Rattle.filters.specs.Filter.{shaped, Lawful, Meaning, Inside, CutFrom, Resumes}
+use Rattle.placements.specs.Placement.{Placement}
+use Rattle.filters.specs.Filter.{shaped, pair-count, Lawful, Inside, CutFrom, Resumes}
 use Rattle.filters.specs.Kept.{PairTest, kept-rows}
+use Rattle.filters.proofs.Counting.{ones-zero}
 use Rattle.filters.proofs.Shapes.{Shape, shape-of, bit-unit, shaped-kept}
 
 pub rows-of-length : (m n : ℕ) (p : Pairs) → length (rows-of m n p) ≡ m
@@ -121,3 +123,50 @@ kept-resumes test a r k changed rows before s c =
       | inl t ↦ t ∙ sym (and-from (bit (getD rows u 0) b) (test a r k u b) t (kept-pair test a r k before s u b (c .inside u b t) .1))
       | inr t ↦ t ∙ sym (ap (λ (x : Bool). x && test a r k u b) t)
     ])
+
+-- code that visits the rows one by one
+
+pair-count-set : (xs : List ℕ) (u x : ℕ) → u < length xs → pair-count (set xs u x) + ones (getD xs u 0) ≡ pair-count xs + ones x
+pair-count-set [] u x l = absurd (omega arith)
+pair-count-set (y ∷ ys) zero x l = omega arith
+pair-count-set (y ∷ ys) (suc u) x l = let h = pair-count-set ys u x (omega arith) in omega arith
+
+-- the rows of the units below u hold the pairs that pass, the others are as they were, and so many pairs are gone
+pub record Thinned (test : Pairs) (start : List ℕ) (u : ℕ) (rows : List ℕ) (taken : ℕ) : Type 0 where
+  pub many : length rows ≡ length start
+  pub kept : (v b : ℕ) → v < u → bit (getD rows v 0) b ≡ (bit (getD start v 0) b && test v b)
+  pub rest : (v : ℕ) → u ≤ v → getD rows v 0 ≡ getD start v 0
+  pub counted : pair-count start ≡ taken + pair-count rows
+
+pub thinned-none : (test : Pairs) (rows : List ℕ) → Thinned test rows 0 rows 0
+thinned-none test rows = record { many = refl; kept = λ v b l. absurd (omega arith); rest = λ v l. refl; counted = omega arith }
+
+pub thinned-more : (test : Pairs) (start : List ℕ) (u : ℕ) (rows : List ℕ) (taken x t : ℕ) → u < length rows → Thinned test start u rows taken
+    → ((b : ℕ) → bit x b ≡ (bit (getD rows u 0) b && test u b)) → t + ones x ≡ ones (getD rows u 0)
+    → Thinned test start (u + 1) (set rows u x) (taken + t)
+thinned-more test start u rows taken x t l h e d = record {
+  many = length-set rows u x ∙ h .many;
+  kept = λ v b lv. elim (cases-eq v u) [
+    | inl z ↦
+        ap (λ (y : ℕ). bit y b) (ap (λ (i : ℕ). getD (set rows u x) i 0) z ∙ getD-set-same rows u x 0 l)
+        ∙ e b ∙ ap (λ (y : ℕ). bit y b && test u b) (h .rest u (omega arith))
+        ∙ ap (λ (i : ℕ). bit (getD start i 0) b && test i b) (sym z)
+    | inr ne ↦ ap (λ (y : ℕ). bit y b) (getD-set-other rows u v x 0 ne) ∙ h .kept v b (let lt : v < u = omega arith in lt)
+  ];
+  rest = λ v lv. getD-set-other rows u v x 0 (λ z. omega arith) ∙ h .rest v (omega arith);
+  counted = omega (arith, h .counted, pair-count-set rows u x l);
+}
+
+pub thinned-all : (test : PairTest) (a r : Graph) (k : Bool) (start rows : List ℕ) (u taken : ℕ) → shaped a r start ≡ true → length start ≤ u
+    → Thinned (test a r k) start u rows taken → rows ≡ kept-rows test a r k start
+thinned-all test a r k start rows u taken e l h =
+    are-kept test a r k start rows e (h .many) (λ v b lv. h .kept v b (omega (arith, shape-of a r start e .many)))
+
+row-count : (xs : List ℕ) (u : ℕ) → ones (getD xs u 0) ≤ pair-count xs
+row-count [] u = omega (arith, ones-zero)
+row-count (x ∷ xs) zero = omega arith
+row-count (x ∷ xs) (suc u) = let h = row-count xs u in omega arith
+
+-- no more can be taken than there was
+pub thinned-fits : (test : Pairs) (start : List ℕ) (u : ℕ) (rows : List ℕ) (taken : ℕ) → Thinned test start u rows taken → taken + ones (getD rows u 0) ≤ pair-count start
+thinned-fits test start u rows taken h = omega (arith, h .counted, row-count rows u)

@@ -16,8 +16,8 @@ loop-b-holds g c = sorted-none (degree-within (g .S·Source .graph (c .args .sou
 pub loop-b-again : need.loop-b-again
 loop-b-again g c =
     let few = g .S·Source .sound (c .args .source .now) .few in
-    sorted-more (degree-within (g .S·Source .graph (c .args .source .now)) all-nodes) (c .loop-b .b) (c .degree .result) (c .loop-b .rows)
-    (c .degree .ensures .degree) (omega (arith, few, c .degree .ensures .below)) (omega (arith, few, c .count-b-end .ensures, c .loop-b-test .taken)) (c .loop-b .inv)
+    sorted-more (degree-within (g .S·Source .graph (c .args .source .now)) all-nodes) (c .loop-b .b) (c .degree-of .result) (c .loop-b .rows)
+    (c .degree-of .ensures .degree) (omega (arith, few, c .degree-of .ensures .below)) (omega (arith, few, c .count-b-end .ensures, c .loop-b-test .taken)) (c .loop-b .inv)
 
 pub returns : need.returns
 returns g c =
