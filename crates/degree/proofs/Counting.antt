@@ -60,10 +60,10 @@ ones-many (suc n) x h =
     let s = many-same n (bit (x / 2)) (λ b. bit x (suc b)) (λ b l. sym (bit-suc x b)) in
     let m = many-low n (bit x) in
     let d : _≡_ {A = ℕ} (cond (bit x 0) 1 0) (x % 2) =
-        elim (digit-cases (x % 2) (omega arith)) [
-          | inl z ↦ none-if (bit x 0) (bit-zero x ∙ ne-eqb (x % 2) 1 (λ e. omega arith)) ∙ sym z
-          | inr z ↦ one-if (bit x 0) (bit-zero x ∙ eq-eqb (x % 2) 1 z) ∙ sym z
-        ] in
+    elim (digit-cases (x % 2) (omega arith)) [
+      | inl z ↦ none-if (bit x 0) (bit-zero x ∙ ne-eqb (x % 2) 1 (λ e. omega arith)) ∙ sym z
+      | inr z ↦ one-if (bit x 0) (bit-zero x ∙ eq-eqb (x % 2) 1 z) ∙ sym z
+    ] in
     omega (arith, ones-step x)
 
 -- the ones of a row within a set
@@ -71,7 +71,7 @@ pub ones-within : (n : ℕ) (p : ℕ → Bool) (set : ℕ) → ones (bitAnd (row
 ones-within n p set =
     ones-many n (bitAnd (row-of n p) set) (bits-below n _ (λ c t. under c (and-parts (bit (row-of n p) c) (bit set c) (sym (bit-and (row-of n p) set c) ∙ t) .0)))
     ∙ many-same n (bit (bitAnd (row-of n p) set)) (λ b. p b && bit set b)
-      (λ b l. bit-and (row-of n p) set b ∙ ap (λ (t : Bool). t && bit set b) (bit-row-of n p b ∙ ap (λ (t : Bool). t && p b) (lt-ltb b n l)))
+    (λ b l. bit-and (row-of n p) set b ∙ ap (λ (t : Bool). t && bit set b) (bit-row-of n p b ∙ ap (λ (t : Bool). t && p b) (lt-ltb b n l)))
   where
     under : (c : ℕ) → bit (row-of n p) c ≡ true → c < n
     under c t = ltb-true c n (and-parts (ltb c n) (p c) (sym (bit-row-of n p c) ∙ t) .0)
@@ -131,10 +131,10 @@ carried (suc m) n f g p into inj =
       | inl e ↦
           let at = into m (omega arith) e in
           let i = carried m n f (but g (p m)) p
-              (λ v lt t.
-                let q = into v (omega arith) t in
-                (q .0, sym (but-other g (p m) (p v) (λ z. inj v m (omega arith) (omega arith) (λ y. omega arith) z)) ∙ q .1))
-              (λ v w lv lw ne z. inj v w (omega arith) (omega arith) ne z) in
+          (λ v lt t.
+          let q = into v (omega arith) t in
+          (q .0, sym (but-other g (p m) (p v) (λ z. inj v m (omega arith) (omega arith) (λ y. omega arith) z)) ∙ q .1))
+          (λ v w lv lw ne z. inj v w (omega arith) (omega arith) ne z) in
           let r = remove n (p m) g (at .0) (at .1) in
           let o = one-if (f m) e in
           omega arith

@@ -58,7 +58,7 @@ sorted-more d b e rows is le lb s =
         | inl z ↦ λ c.
             ap (λ (y : ℕ). bit y c) (ap (λ (j : ℕ). getD (set rows (e + 1) x) (j + 1) 0) z ∙ getD-set-same rows (e + 1) x 0 (omega (arith, s .many)))
             ∙ upto-set (λ v. eqb (d v) k) (getD rows (e + 1) 0) b lb
-              (subst (λ (j : ℕ). Upto b (λ v. eqb (d v) k) (getD rows (j + 1) 0)) z (s .exact k lk)) (eq-eqb (d b) k (sym is ∙ sym z)) c
+            (subst (λ (j : ℕ). Upto b (λ v. eqb (d v) k) (getD rows (j + 1) 0)) z (s .exact k lk)) (eq-eqb (d b) k (sym is ∙ sym z)) c
         | inr ne ↦ λ c.
             ap (λ (y : ℕ). bit y c) (getD-set-other rows (e + 1) (k + 1) x 0 (λ z. ne (omega arith)))
             ∙ upto-pass (λ v. eqb (d v) k) (getD rows (k + 1) 0) b (s .exact k lk) (ne-eqb (d b) k (λ z. ne (sym z ∙ sym is))) c

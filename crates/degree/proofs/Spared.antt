@@ -59,7 +59,7 @@ module _ (a r : Graph) (k : Bool) (w : List ℕ) (sa : Sound a) (sr : Sound r) (
       let ne : u ≡ v → ⊥ = λ z. eqb-false v u (not-true _ (s .1)) (sym z) in
       let j : a .joined u v ≡ false = elim (cases-bool (a .joined u v)) [ inl t ↦ absurd (both-ways (near a u v) (not-true _ (s .0)) (and-from (a .joined u v) true t refl)) | inr f ↦ f ] in
       let t : not (k && r .joined (getD w u 0) (getD w v 0)) ≡ true =
-          sym (cond-false (a .joined u v) (r .joined (getD w u 0) (getD w v 0)) (not (k && r .joined (getD w u 0) (getD w v 0))) j) ∙ parts u v lu lv ne .1 in
+      sym (cond-false (a .joined u v) (r .joined (getD w u 0) (getD w v 0)) (not (k && r .joined (getD w u 0) (getD w v 0))) j) ∙ parts u v lu lv ne .1 in
       let f : r .joined (getD w u 0) (getD w v 0) ≡ false = not-true _ (ap (λ b. not (b && r .joined (getD w u 0) (getD w v 0))) (sym strict) ∙ t) in
       and-from (not (near r (getD w u 0) (getD w v 0))) (not (eqb (getD w v 0) (getD w u 0)))
       (not-from-false _ (near-none r (getD w u 0) (getD w v 0) f))

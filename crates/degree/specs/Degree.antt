@@ -11,7 +11,7 @@ abbrev pub how-many : ℕ → (ℕ → Bool) → ℕ
 how-many zero p = 0
 how-many (suc n) p = cond (p n) 1 0 + how-many n p
 
--- how many nodes of the set the node a is joined to
+-- how many nodes of the set the node a is joined to: the joints that start at a
 abbrev pub degree-within : Graph → (ℕ → Bool) → ℕ → ℕ
 degree-within g set a = how-many (g .count) (λ b. g .joined a b && set b)
 

@@ -8,13 +8,13 @@ use Rattle.graphs.specs.WallGrid.{wall-graph}
 use Rattle.degree.specs.Degree.{degree-meaning}
 
 -- two nodes side by side, two that are not joined, and three in a row
-abbrev pair : Graph
+abbrev pub pair : Graph
 pair = wall-graph 2 1
 
-abbrev apart : Graph
+abbrev pub apart : Graph
 apart = record { count = 2; joined = λ a b. false }
 
-abbrev line : Graph
+abbrev pub line : Graph
 line = wall-graph 3 1
 
 pub record Worked : Type 0 where

@@ -87,9 +87,9 @@ module _ (test : PairTest) (a r : Graph) (k : Bool) (rows : List ℕ) where
       let s = shape-of a r rows e in
       ext-getD 0 left (rows-of (a .count) (r .count) (λ u b. pairs rows u b && test a r k u b)) (m ∙ s .many ∙ sym (rows-of-length (a .count) (r .count) (λ u b. pairs rows u b && test a r k u b)))
       (λ u l.
-        let lu : u < a .count = omega (arith, s .many) in
-        row-is (r .count) (getD left u 0) (λ b. pairs rows u b && test a r k u b) (λ b. h u b lu ∙ under-too s u b)
-        ∙ sym (rows-of-at (a .count) (r .count) (λ v c. pairs rows v c && test a r k v c) u lu))
+      let lu : u < a .count = omega (arith, s .many) in
+      row-is (r .count) (getD left u 0) (λ b. pairs rows u b && test a r k u b) (λ b. h u b lu ∙ under-too s u b)
+      ∙ sym (rows-of-at (a .count) (r .count) (λ v c. pairs rows v c && test a r k v c) u lu))
       ∙ sym (shaped-is e)
     where
       under-too : Shape a r rows → (u b : ℕ) → (pairs rows u b && test a r k u b) ≡ (ltb b (r .count) && (pairs rows u b && test a r k u b))

@@ -15,8 +15,8 @@ use Rattle.filters.proofs.Kept.{thinned-more, thinned-all, thinned-fits}
 use Rattle.degree.specs.Degree.{degree-within, all-nodes, degree-test}
 use Rattle.degree.proofs.Degrees.{rows-test}
 use Rattle.degree.proofs.Rooms.{worked}
-use Rattle.degree.proofs.thin_by_degree.Given as given
-use Rattle.degree.proofs.thin_by_degree.Needs as need
+use Rattle.degree.proofs.thin.thin_by_degree.Given as given
+use Rattle.degree.proofs.thin.thin_by_degree.Needs as need
 
 fewer-ones : (g : given.Over) (c : need.After-enough-left g) → ones (c .enough-left .result) ≤ ones (getD (c .loop-u .rows) (c .loop-u .u) 0)
 fewer-ones g c = ones-mono (c .enough-left .result) (getD (c .loop-u .rows) (c .loop-u .u) 0) (λ b t. and-parts _ _ (sym (c .enough-left .ensures b) ∙ t) .0)
@@ -31,7 +31,7 @@ taken-fits g c =
 pub returns-then-not-well-shaped : need.returns-then-not-well-shaped
 returns-then-not-well-shaped g c = record {
   rows = sym (cond-false (shaped (g .A·Source .graph (c .args .arrangement .now)) (g .R·Source .graph (c .args .room .now)) (c .args .rows .now)) _ (c .args .rows .now) (sym (c .well-shaped .ensures) ∙ c .if-not-well-shaped .taken));
-  counts = record { taken = omega arith; empty = c .empty-rows .ensures };
+  counts = c .nothing-taken .ensures;
   worked = worked;
 }
 
@@ -61,11 +61,11 @@ loop-u-again g c =
     (ones (getD (c .loop-u .rows) u 0) - ones (c .enough-left .result)) (omega arith) (c .loop-u .inv)
     (λ b. c .enough-left .ensures b
     ∙ rows-test a r sr (c .args .strict) u b (getD (c .loop-u .rows) u 0)
-      (getD (c .with-fewer-fewer .result) j 0) (getD (c .with-fewer-fewer .result) (c .count-bays .result - (length start - 1 - j)) 0)
-      (λ t. s .under u b (ap (λ (x : ℕ). bit x b) (sym same) ∙ t))
-      (c .with-fewer-fewer .ensures j (omega (arith, s .few, c .degree-of .ensures .below)) ∙ ap row-at is-d)
-      (c .with-fewer-fewer .ensures (c .count-bays .result - (length start - 1 - j)) (omega (arith, sr .few, c .count-bays .ensures))
-      ∙ ap row-at (let e : c .count-bays .result - (length start - 1 - j) ≡ r .count - (a .count - 1 - d) = omega (arith, is-d, c .count-bays .ensures, s .many) in e)))
+    (getD (c .with-fewer-fewer .result) j 0) (getD (c .with-fewer-fewer .result) (c .count-bays .result - (length start - 1 - j)) 0)
+    (λ t. s .under u b (ap (λ (x : ℕ). bit x b) (sym same) ∙ t))
+    (c .with-fewer-fewer .ensures j (omega (arith, s .few, c .degree-of .ensures .below)) ∙ ap row-at is-d)
+    (c .with-fewer-fewer .ensures (c .count-bays .result - (length start - 1 - j)) (omega (arith, sr .few, c .count-bays .ensures))
+    ∙ ap row-at (let e : c .count-bays .result - (length start - 1 - j) ≡ r .count - (a .count - 1 - d) = omega (arith, is-d, c .count-bays .ensures, s .many) in e)))
     (omega (arith, fewer-ones g c))
 
 pub returns : need.returns
@@ -75,6 +75,6 @@ returns g c =
     record {
       rows = thinned-all degree-test a r (c .args .strict) (c .args .rows .now) (c .loop-u .rows) (c .loop-u .u) (c .loop-u .taken)
           (sym (c .well-shaped .ensures) ∙ c .if-not-well-shaped .left) (omega arith) (c .loop-u .inv);
-      counts = record { taken = c .loop-u .inv .counted; empty = c .empty-rows-2 .ensures };
+      counts = record { taken = c .loop-u .inv .counted; empty = c .empty-rows .ensures };
       worked = worked;
     }

@@ -6,7 +6,7 @@ use Rattle.graphs.specs.Graph.{Graph}
 use Rattle.graphs.proofs.Rows.{row-is}
 use Rattle.degree.specs.Degree.{degree-within, all-nodes}
 use Rattle.degree.proofs.Degrees.{summed-none, summed-more}
-use Rattle.degree.proofs.with_fewer.Needs as need
+use Rattle.degree.proofs.joints.with_fewer.Needs as need
 
 pub loop-k-holds : need.loop-k-holds
 loop-k-holds g c =

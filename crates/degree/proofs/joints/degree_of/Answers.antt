@@ -2,7 +2,7 @@ use mathlib.Core.Path.{_≡_, sym, subst, _∙_}
 use Prim.Native.Nat.{ℕ, _<_}
 use Rattle.graphs.specs.Graph.{Graph}
 use Rattle.degree.proofs.Degrees.{degree-full, degree-less}
-use Rattle.degree.proofs.degree_of.Needs as need
+use Rattle.degree.proofs.joints.degree_of.Needs as need
 
 pub returns : need.returns
 returns g c =

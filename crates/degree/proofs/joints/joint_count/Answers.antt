@@ -8,8 +8,8 @@ use Rattle.graphs.specs.Rows.{bit}
 use Rattle.graphs.specs.Graph.{Graph}
 use Rattle.degree.specs.Degree.{degree-within}
 use Rattle.degree.proofs.Counting.{ones-within, many-le}
-use Rattle.degree.proofs.joint_count.Given as given
-use Rattle.degree.proofs.joint_count.Needs as need
+use Rattle.degree.proofs.joints.joint_count.Given as given
+use Rattle.degree.proofs.joints.joint_count.Needs as need
 
 counted : (g : given.Over) (c : need.After-row g) → ones (bitAnd (c .row .result) (c .args .within)) ≡ degree-within (g .S·Source .graph (c .args .source .now)) (bit (c .args .within)) (c .args .node)
 counted g c =

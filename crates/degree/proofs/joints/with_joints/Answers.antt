@@ -8,7 +8,7 @@ use Rattle.graphs.specs.Graph.{Graph}
 use Rattle.graphs.proofs.Rows.{row-is}
 use Rattle.degree.specs.Degree.{degree-within, all-nodes}
 use Rattle.degree.proofs.Degrees.{sorted-none, sorted-more}
-use Rattle.degree.proofs.with_joints.Needs as need
+use Rattle.degree.proofs.joints.with_joints.Needs as need
 
 pub loop-b-holds : need.loop-b-holds
 loop-b-holds g c = sorted-none (degree-within (g .S·Source .graph (c .args .source .now)) all-nodes)

@@ -7,7 +7,7 @@ use lib.ListN.{getD}
 use Rattle.graphs.specs.Rows.{bit}
 use Rattle.graphs.proofs.Bits.{bit-and}
 use Rattle.degree.proofs.Degrees.{bit-without, in-open-use, in-strict-use}
-use Rattle.degree.proofs.enough.Needs as need
+use Rattle.degree.proofs.thin.enough.Needs as need
 
 pub returns-then-strict : need.returns-then-strict
 returns-then-strict c b =
