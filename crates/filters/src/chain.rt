@@ -1,7 +1,7 @@
 // The filter that takes nothing away, and two filters one after the other.
 ghost use mathlib.Core.Path.{_≡_};
 ghost use mathlib.Core.Bool.{true};
-ghost use Prim.Native.Nat.{_+_, _≤_};
+ghost use Prim.Native.Nat.{_+_, _^_, _<_, _≤_};
 ghost use Rattle.filters.specs.Filter.{pair-count};
 ghost use Rattle.filters.specs.Composed.{open-meaning, then-meaning};
 use crate::Counts;
@@ -29,7 +29,7 @@ pub impl Filter for Open as OpenFilter {
 
 // The counts of two filters one after the other.
 fn both(first: Counts, second: Counts) -> Counts
-    requires { ⌜ first .taken + second .taken ≤ 3072 ⌝ }
+    requires { ⌜ first .taken + second .taken < 2 ^ 64 ⌝ }
     ensures taken { λ k. ⌜ k .taken ≡ first .taken + second .taken ⌝ }
     ensures empty { λ k. ⌜ k .empty ≡ second .empty ⌝ }
 {
