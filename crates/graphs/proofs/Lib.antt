@@ -2,3 +2,4 @@ pub mod Bits
 pub mod Rows
 pub mod JointTables
 pub mod Walls
+pub mod PairSets

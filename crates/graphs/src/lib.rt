@@ -1,4 +1,6 @@
 // Rows as sets of bays, and graphs of joints by what they answer.
+pub mod pairs;
+
 ghost use mathlib.Core.Path.{_≡_};
 ghost use Prim.Native.Nat.{ℕ};
 ghost use Rattle.graphs.specs.Rows.{bit, row-of};

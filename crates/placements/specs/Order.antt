@@ -1,7 +1,7 @@
--- Dictionary order of lists of bays, and the first of those with a property. Assumes nothing.
+-- Dictionary order of lists of bays, and the first and all of those with a property. Assumes nothing.
 use mathlib.Core.Path.{_≡_}
 use mathlib.Core.Logic.{_⊎_}
-use mathlib.Core.List.{List}
+use mathlib.Core.List.{List, []}
 use Prim.Native.Nat.{ℕ, _<_}
 use lib.ListN.{length, getD}
 use Rattle.std.specs.declared.option.Option.{Option}
@@ -23,3 +23,9 @@ pub record IsFirst (P : List ℕ → Type 0) (w : List ℕ) : Type 0 where
 abbrev pub Answers : (List ℕ → Type 0) → Option (List ℕ) → Type 0
 Answers P (Some w) = IsFirst P w
 Answers P None = (w : List ℕ) → P w → ⊥
+
+-- ws are all the lists that P holds of, in dictionary order, each once
+pub record Lists (P : List ℕ → Type 0) (ws : List (List ℕ)) : Type 0 where
+  pub rising : (i j : ℕ) → i < j → j < length ws → Before (getD ws i []) (getD ws j [])
+  pub sound : (i : ℕ) → i < length ws → P (getD ws i [])
+  pub complete : (w : List ℕ) → P w → (i : ℕ) × (i < length ws) × (getD ws i [] ≡ w)

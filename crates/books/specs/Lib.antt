@@ -1,0 +1,3 @@
+pub mod Clearance
+pub mod Services
+pub mod Fit

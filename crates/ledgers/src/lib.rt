@@ -1,0 +1,1 @@
+// The ledger of a plan: definitions, and their laws.

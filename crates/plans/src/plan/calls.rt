@@ -1,0 +1,101 @@
+// The calls that need no search.
+ghost use mathlib.Core.Path.{_≡_};
+ghost use mathlib.Core.List.{[]};
+ghost use Rattle.books.specs.Fit.{handed};
+ghost use Rattle.ledgers.specs.Calls.{begin, «open», strike, free, fit, fit-further, tally, save, number};
+ghost use Rattle.plans.specs.Refused.{doing, saving, opening};
+ghost use Rattle.plans.specs.Step.{Step, Shows, Fresh, turn};
+ghost use Rattle.plans.specs.Runs.{Law};
+use crate::plan::Plan;
+use crate::refusal::Refusal;
+use books::Book;
+use books::suited_rows;
+use graphs::holds;
+use graphs::pairs::common;
+use graphs::pairs::total;
+
+impl Plan {
+    // A plan of one unit and one bay.
+    pub fn new() -> Plan
+        ensures fresh { λ r. ⌜ Fresh r ⌝ }
+        ensures law { λ _. ⌜ Law ⌝ }
+    {
+        Plan { units: 1, bays: 1, struck: [0; 24], fit: false, fitted: [0; 24], last: None }
+    }
+
+    // Starts the plan over.
+    pub fn begin(&mut self, units: usize, bays: usize) -> Result<(), Refusal>
+        ensures { λ r. ⌜ Step (now (self .entry)) (turn (begin units bays) (doing r) []) (now (self .exit)) ⌝ }
+    {
+        if units < 1 || units > 24 || bays < 1 || bays > 64 {
+            return Err(Refusal::Sizes);
+        }
+        *self = Plan { units, bays, struck: [0; 24], fit: false, fitted: [0; 24], last: None };
+        Ok(())
+    }
+
+    // Strikes a pair.
+    pub fn strike(&mut self, unit: usize, bay: usize) -> Result<(), Refusal>
+        ensures { λ r. ⌜ Step (now (self .entry)) (turn (strike unit bay) (doing r) []) (now (self .exit)) ⌝ }
+    {
+        if unit >= self.units || bay >= self.bays {
+            return Err(Refusal::OutOfRange);
+        }
+        let row = self.struck[unit];
+        if holds(row, bay) {
+            return Err(Refusal::Standing);
+        }
+        self.struck[unit] = row | (1 << bay);
+        Ok(())
+    }
+
+    // Frees a struck pair.
+    pub fn free(&mut self, unit: usize, bay: usize) -> Result<(), Refusal>
+        ensures { λ r. ⌜ Step (now (self .entry)) (turn (free unit bay) (doing r) []) (now (self .exit)) ⌝ }
+    {
+        if unit >= self.units || bay >= self.bays {
+            return Err(Refusal::OutOfRange);
+        }
+        let row = self.struck[unit];
+        if !holds(row, bay) {
+            return Err(Refusal::Standing);
+        }
+        self.struck[unit] = row & !(1 << bay);
+        Ok(())
+    }
+
+    // Fits exactly the pairs whose cards suit by the book.
+    pub fn fit<B: Book>(&mut self, book: &B, units: &[B::UnitCard], bays: &[B::BayCard]) -> Result<(), Refusal>
+        ensures { λ r. ⌜ Step (now (self .entry)) (turn (fit (handed (B·Book .suiting (now (book .entry))) (now (units .entry)) (now (bays .entry)))) (doing r) []) (now (self .exit)) ⌝ }
+    {
+        if units.len() != self.units || bays.len() != self.bays {
+            return Err(Refusal::CardCount);
+        }
+        self.fitted = suited_rows(book, units, bays);
+        self.fit = true;
+        Ok(())
+    }
+
+    // Drops the fitted pairs that the book refuses.
+    pub fn fit_further<B: Book>(&mut self, book: &B, units: &[B::UnitCard], bays: &[B::BayCard]) -> Result<(), Refusal>
+        ensures { λ r. ⌜ Step (now (self .entry)) (turn (fit-further (handed (B·Book .suiting (now (book .entry))) (now (units .entry)) (now (bays .entry)))) (doing r) []) (now (self .exit)) ⌝ }
+    {
+        if units.len() != self.units || bays.len() != self.bays {
+            return Err(Refusal::CardCount);
+        }
+        if !self.fit {
+            return Err(Refusal::NoFit);
+        }
+        let suited = suited_rows(book, units, bays);
+        let kept = common(&self.fitted, &suited);
+        self.fitted = kept;
+        Ok(())
+    }
+
+    // How many pairs are not struck.
+    pub fn tally(&self) -> usize
+        ensures { λ r. ⌜ Step (now (self .entry)) (turn tally (number r) []) (now (self .entry)) ⌝ }
+    {
+        self.units * self.bays - total(&self.struck)
+    }
+}

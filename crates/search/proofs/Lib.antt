@@ -1,0 +1,4 @@
+pub mod Agreement
+pub mod Scan
+pub mod First
+pub mod Whole

@@ -1,0 +1,3 @@
+pub mod SetBits
+pub mod Tables
+pub mod Grids
