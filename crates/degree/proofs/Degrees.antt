@@ -6,6 +6,7 @@ use mathlib.Core.Logic.{_⊎_, inl, inr, _≢_}
 use Prim.Native.Nat.{ℕ, zero, suc, _+_, _-_, _*_, _%_, _^_, _≤_, _<_, zero-le}
 use native.Mathlib.Omega.{arith}
 use lib.Bits.{bitAnd, bitOr}
+use lib.Count.{ones}
 use lib.Dec.{eqb, ltb, leb}
 use lib.ListN.{length, getD, set, replicate, length-set}
 use lib.Seq.{getD-set-same, getD-set-other}
@@ -15,23 +16,45 @@ use Rattle.std.proofs.shelf.Ways.{tells}
 use Rattle.graphs.specs.Rows.{bit, row-of}
 use Rattle.graphs.specs.Graph.{Graph, Sound}
 use Rattle.graphs.proofs.Bits.{bit-and, bit-or, bit-none, bit-past}
-use Rattle.graphs.proofs.Rows.{Upto, upto-none, upto-set, upto-pass, bit-row-of}
+use Rattle.graphs.proofs.Rows.{Upto, upto-none, upto-set, upto-pass, bit-row-of, row-is}
+use Rattle.placements.specs.Counting.{count-below, degree}
+use Rattle.placements.proofs.Counting.{count-same, count-not, count-all, ones-row-of, degree-less as degree-below}
 use Rattle.placements.proofs.Masks.{bit-full, bit-inverse}
 use Rattle.degree.specs.Degree.{degree-within, all-nodes, degree-test}
-use Rattle.degree.proofs.Counting.{many-same, many-less}
+
+-- the ones of a row within a set
+pub ones-within : (n : ℕ) (p : ℕ → Bool) (set : ℕ) → ones (bitAnd (row-of n p) set) ≡ count-below n (λ b. p b && bit set b)
+ones-within n p set =
+    ap ones (row-is n (bitAnd (row-of n p) set) (λ b. p b && bit set b)
+    (λ b. bit-and (row-of n p) set b ∙ ap (λ (t : Bool). t && bit set b) (bit-row-of n p b) ∙ and-assoc (ltb b n) (p b) (bit set b)))
+    ∙ ones-row-of n (λ b. p b && bit set b)
+  where
+    and-assoc : (s t v : Bool) → ((s && t) && v) ≡ (s && (t && v))
+    and-assoc true t v = refl
+    and-assoc false t v = refl
+
+-- within all nodes: the degree
+pub degree-all : (g : Graph) (a : ℕ) → degree-within g all-nodes a ≡ degree g a
+degree-all g a = count-same (g .count) (λ b. g .joined a b && all-nodes b) (g .joined a) (λ b l. and-true (g .joined a b))
+  where
+    and-true : (t : Bool) → (t && true) ≡ t
+    and-true true = refl
+    and-true false = refl
 
 -- all bits of a number of 64 bits are all nodes
 pub degree-full : (g : Graph) → Sound g → (a : ℕ) → degree-within g (bit 18446744073709551615) a ≡ degree-within g all-nodes a
 degree-full g s a =
-    many-same (g .count) (λ b. g .joined a b && bit 18446744073709551615 b) (λ b. g .joined a b && all-nodes b)
+    count-same (g .count) (λ b. g .joined a b && bit 18446744073709551615 b) (λ b. g .joined a b && all-nodes b)
     (λ b l. ap (λ (t : Bool). g .joined a b && t) (bit-full b (omega (arith, s .few))))
 
 -- no node is joined to itself, nor one past the count to any
 pub degree-less : (g : Graph) → Sound g → (a : ℕ) → degree-within g all-nodes a < g .count
 degree-less g s a =
     elim (cases-lt a (g .count)) [
-      | inl l ↦ many-less (g .count) (λ b. g .joined a b && all-nodes b) a l (and-left (g .joined a a) true (s .irreflexive a))
-      | inr l ↦ many-less (g .count) (λ b. g .joined a b && all-nodes b) 0 (omega (arith, s .some)) (and-left (g .joined a 0) true (s .outside-from a 0 l))
+      | inl l ↦ omega (arith, degree-all g a, degree-below g a s l)
+      | inr l ↦
+          let none : count-below (g .count) (λ b. not (g .joined a b)) ≡ g .count = count-all (g .count) (λ b. not (g .joined a b)) (λ b lb. ap not (s .outside-from a b l)) in
+          omega (arith, degree-all g a, count-not (g .count) (g .joined a), s .some)
     ]
 
 -- the nodes below b, each in the row above its degree

@@ -1,4 +1,3 @@
-pub mod Counting
 pub mod Degrees
 pub mod Spared
 pub mod Rooms

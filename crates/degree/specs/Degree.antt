@@ -1,19 +1,15 @@
 -- The degree of a node within a set, and the filter by degrees. Assumes nothing.
-use mathlib.Core.Bool.{Bool, true, _&&_, _||_, not, cond}
-use Prim.Native.Nat.{ℕ, zero, suc, _+_, _-_}
+use mathlib.Core.Bool.{Bool, true, _&&_, _||_, not}
+use Prim.Native.Nat.{ℕ, _-_}
 use lib.Dec.{leb}
 use Rattle.graphs.specs.Graph.{Graph}
+use Rattle.placements.specs.Counting.{count-below}
 use Rattle.filters.specs.Filter.{Meaning}
 use Rattle.filters.specs.Kept.{PairTest, kept-rows}
 
--- how many of the numbers below n pass the test
-abbrev pub how-many : ℕ → (ℕ → Bool) → ℕ
-how-many zero p = 0
-how-many (suc n) p = cond (p n) 1 0 + how-many n p
-
 -- how many nodes of the set the node a is joined to: the joints that start at a
 abbrev pub degree-within : Graph → (ℕ → Bool) → ℕ → ℕ
-degree-within g set a = how-many (g .count) (λ b. g .joined a b && set b)
+degree-within g set a = count-below (g .count) (λ b. g .joined a b && set b)
 
 -- the set of all nodes
 abbrev pub all-nodes : ℕ → Bool

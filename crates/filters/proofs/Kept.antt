@@ -13,33 +13,19 @@ use Rattle.std.proofs.shelf.Lists.{ext-getD}
 use Rattle.std.proofs.shelf.Tests.{cases-eq, cases-bool, cond-true, cond-false, and-parts, and-from, and-right, lt-ltb}
 use Rattle.graphs.specs.Rows.{bit, row-of, rows-of, Pairs, pairs}
 use Rattle.graphs.specs.Graph.{Graph, Sound}
-use Rattle.graphs.proofs.Rows.{bit-row-of, row-is}
+use Rattle.graphs.proofs.Rows.{row-is}
+use Rattle.graphs.proofs.PairSets.{rows-length, pairs-rows}
 use Rattle.placements.specs.Placement.{Placement}
 use Rattle.filters.specs.Filter.{shaped, pair-count, Lawful, Inside, CutFrom, Resumes}
 use Rattle.filters.specs.Kept.{PairTest, kept-rows}
 use Rattle.filters.proofs.Counting.{ones-zero}
-use Rattle.filters.proofs.Shapes.{Shape, shape-of, bit-unit, shaped-kept}
+use Rattle.filters.proofs.Shapes.{Shape, shape-of, shaped-kept}
 
-pub rows-of-length : (m n : ℕ) (p : Pairs) → length (rows-of m n p) ≡ m
-unfolding rows-of
-rows-of-length zero n p = refl
-rows-of-length (suc m) n p = ap suc (rows-of-length m n (λ u. p (suc u)))
-
-pub rows-of-at : (m n : ℕ) (p : Pairs) (u : ℕ) → u < m → getD (rows-of m n p) u 0 ≡ row-of n (p u)
+rows-of-at : (m n : ℕ) (p : Pairs) (u : ℕ) → u < m → getD (rows-of m n p) u 0 ≡ row-of n (p u)
 unfolding rows-of
 rows-of-at zero n p u l = absurd (omega arith)
 rows-of-at (suc m) n p zero l = refl
 rows-of-at (suc m) n p (suc u) l = rows-of-at m n (λ v. p (suc v)) u (omega arith)
-
-pub rows-of-bit : (m n : ℕ) (p : Pairs) (u b : ℕ) → u < m → b < n → pairs (rows-of m n p) u b ≡ p u b
-rows-of-bit m n p u b lu lb =
-    ap (λ (x : ℕ). bit x b) (rows-of-at m n p u lu) ∙ bit-row-of n (p u) b ∙ ap (λ (t : Bool). t && p u b) (lt-ltb b n lb)
-
--- a pair of such rows passes
-pub rows-of-pair : (m n : ℕ) (p : Pairs) (u b : ℕ) → pairs (rows-of m n p) u b ≡ true → p u b ≡ true
-rows-of-pair m n p u b t =
-    let l : u < m = omega (arith, bit-unit (rows-of m n p) u b t, rows-of-length m n p) in
-    and-parts (ltb b n) (p u b) (sym (bit-row-of n (p u) b) ∙ sym (ap (λ (x : ℕ). bit x b) (rows-of-at m n p u l)) ∙ t) .1
 
 module _ (test : PairTest) (a r : Graph) (k : Bool) (rows : List ℕ) where
   shaped-is : shaped a r rows ≡ true → kept-rows test a r k rows ≡ rows-of (a .count) (r .count) (λ u b. pairs rows u b && test a r k u b)
@@ -51,7 +37,7 @@ module _ (test : PairTest) (a r : Graph) (k : Bool) (rows : List ℕ) where
   as-many-is : length (kept-rows test a r k rows) ≡ length rows
   as-many-is =
       elim (cases-bool (shaped a r rows)) [
-        | inl e ↦ ap length (shaped-is e) ∙ rows-of-length (a .count) (r .count) (λ u b. pairs rows u b && test a r k u b) ∙ sym (shape-of a r rows e .many)
+        | inl e ↦ ap length (shaped-is e) ∙ rows-length (a .count) (r .count) (λ u b. pairs rows u b && test a r k u b) ∙ sym (shape-of a r rows e .many)
         | inr e ↦ ap length (ill-is e)
       ]
 
@@ -59,7 +45,9 @@ module _ (test : PairTest) (a r : Graph) (k : Bool) (rows : List ℕ) where
   pub kept-pair : shaped a r rows ≡ true → (u b : ℕ) → pairs (kept-rows test a r k rows) u b ≡ true → (pairs rows u b ≡ true) × (test a r k u b ≡ true)
   kept-pair e u b t =
       and-parts (pairs rows u b) (test a r k u b)
-      (rows-of-pair (a .count) (r .count) (λ v c. pairs rows v c && test a r k v c) u b (sym (ap (λ (xs : List ℕ). pairs xs u b) (shaped-is e)) ∙ t))
+      (and-parts (ltb b (r .count)) (pairs rows u b && test a r k u b)
+      (and-parts (ltb u (a .count)) (ltb b (r .count) && (pairs rows u b && test a r k u b))
+      (sym (pairs-rows (a .count) (r .count) (λ v c. pairs rows v c && test a r k v c) u b) ∙ sym (ap (λ (xs : List ℕ). pairs xs u b) (shaped-is e)) ∙ t) .1) .1)
 
   adds-none-is : Inside (kept-rows test a r k rows) rows
   adds-none-is u b t =
@@ -75,8 +63,9 @@ module _ (test : PairTest) (a r : Graph) (k : Bool) (rows : List ℕ) where
         | inl e ↦
             let s = shape-of a r rows e in
             ap (λ (xs : List ℕ). pairs xs u b) (shaped-is e)
-            ∙ rows-of-bit (a .count) (r .count) (λ v c. pairs rows v c && test a r k v c) u b (s .unit u b t) (s .under u b t)
-            ∙ and-from (pairs rows u b) (test a r k u b) t p
+            ∙ pairs-rows (a .count) (r .count) (λ v c. pairs rows v c && test a r k v c) u b
+            ∙ and-from (ltb u (a .count)) (ltb b (r .count) && (pairs rows u b && test a r k u b)) (lt-ltb u (a .count) (s .unit u b t))
+            (and-from (ltb b (r .count)) (pairs rows u b && test a r k u b) (lt-ltb b (r .count) (s .under u b t)) (and-from (pairs rows u b) (test a r k u b) t p))
         | inr e ↦ ap (λ (xs : List ℕ). pairs xs u b) (ill-is e) ∙ t
       ]
 
@@ -85,7 +74,7 @@ module _ (test : PairTest) (a r : Graph) (k : Bool) (rows : List ℕ) where
       → ((u b : ℕ) → u < a .count → bit (getD left u 0) b ≡ (bit (getD rows u 0) b && test a r k u b)) → left ≡ kept-rows test a r k rows
   are-kept left e m h =
       let s = shape-of a r rows e in
-      ext-getD 0 left (rows-of (a .count) (r .count) (λ u b. pairs rows u b && test a r k u b)) (m ∙ s .many ∙ sym (rows-of-length (a .count) (r .count) (λ u b. pairs rows u b && test a r k u b)))
+      ext-getD 0 left (rows-of (a .count) (r .count) (λ u b. pairs rows u b && test a r k u b)) (m ∙ s .many ∙ sym (rows-length (a .count) (r .count) (λ u b. pairs rows u b && test a r k u b)))
       (λ u l.
       let lu : u < a .count = omega (arith, s .many) in
       row-is (r .count) (getD left u 0) (λ b. pairs rows u b && test a r k u b) (λ b. h u b lu ∙ under-too s u b)

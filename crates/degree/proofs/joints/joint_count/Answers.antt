@@ -7,7 +7,8 @@ use lib.Count.{ones}
 use Rattle.graphs.specs.Rows.{bit}
 use Rattle.graphs.specs.Graph.{Graph}
 use Rattle.degree.specs.Degree.{degree-within}
-use Rattle.degree.proofs.Counting.{ones-within, many-le}
+use Rattle.placements.proofs.Counting.{count-le}
+use Rattle.degree.proofs.Degrees.{ones-within}
 use Rattle.degree.proofs.joints.joint_count.Given as given
 use Rattle.degree.proofs.joints.joint_count.Needs as need
 
@@ -19,7 +20,7 @@ counted g c =
 pub cast-result : need.cast-result
 cast-result g c =
     let G : Graph = g .S·Source .graph (c .args .source .now) in
-    omega (arith, counted g c, many-le (G .count) (λ b. G .joined (c .args .node) b && bit (c .args .within) b), g .S·Source .sound (c .args .source .now) .few)
+    omega (arith, counted g c, count-le (G .count) (λ b. G .joined (c .args .node) b && bit (c .args .within) b), g .S·Source .sound (c .args .source .now) .few)
 
 pub returns : need.returns
 returns g c = counted g c
