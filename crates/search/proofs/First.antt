@@ -73,6 +73,7 @@ kept w lawful ga gr rows q placed within u l =
     lawful .keeps (w .arrangement) (w .room) (w .strict) rows q ga gr placed (λ i li. within i (omega arith)) u (omega arith)
 
 module _ (w : Setting) (last : List ℕ) (lawful : Lawful (w .filter)) (gu : Sound (w .arrangement)) (gb : Sound (w .room)) where
+
   abbrev m : ℕ
   m = w .arrangement .count
 
@@ -92,12 +93,10 @@ module _ (w : Setting) (last : List ℕ) (lawful : Lawful (w .filter)) (gu : Sou
             whole = length-map rows (trailingZeros 64) ∙ st .long;
             on-bays = λ i l. st .low i (at i) (isin i l);
             agree = λ i j li lj ne. elim (cases-order i j) [
-              | inl same ↦ absurd (ne same)
+                inl same ↦ absurd (ne same)
               | inr o ↦ elim o [
-                | inl less ↦ st .settled i j (at i) (at j) (omega arith) less lj (isin i li) (isin j lj)
-                | inr more ↦ agrees-flip (w .room) (w .arrangement .joined i j) (w .arrangement .joined j i) (w .strict) (at i) (at j) ∙ st .settled j i (at j) (at i) (omega arith) more li (isin j lj) (isin i li)
-              ]
-            ];
+                  inl less ↦ st .settled i j (at i) (at j) (omega arith) less lj (isin i li) (isin j lj)
+                | inr more ↦ agrees-flip (w .room) (w .arrangement .joined i j) (w .arrangement .joined j i) (w .strict) (at i) (at j) ∙ st .settled j i (at j) (at i) (omega arith) more li (isin j lj) (isin i li) ] ];
           };
           within = isin;
           after = λ t. absurd (let l = st .apart t in omega arith);
@@ -109,6 +108,7 @@ module _ (w : Setting) (last : List ℕ) (lawful : Lawful (w .filter)) (gu : Sou
   -- ---- one try: unit u takes the bay b
 
   module _ (tied : Bool) (u later b : ℕ) (rows : List ℕ) (e : u + suc later ≡ m) (st : Stands w last tied u rows) where
+
     abbrev next : List ℕ
     next = after-try w u b rows
 
@@ -155,19 +155,17 @@ module _ (w : Setting) (last : List ℕ) (lawful : Lawful (w .filter)) (gu : Sou
     past i c l h = both-ways _ (ap (λ (r : ℕ). bit r c) (getD-past next i 0 (omega (arith, next-long))) ∙ bit-none c) h
 
     module _ (held : bit (getD rows u 0) b ≡ true) where
+
       next-back : (i c : ℕ) → bit (getD next i 0) c ≡ true → bit (getD rows i 0) c ≡ true
       next-back i c h =
           elim (cases-lt i m) [
-            | inr l ↦ absurd (past i c l h)
-            | inl li ↦ elim (cases-order i u) [
-              | inl z ↦ (let hb : c ≡ b = next-here c (subst (λ (x : ℕ). bit (getD next x 0) c ≡ true) z h) in
-                  subst₂ (λ (x y : ℕ). bit (getD rows x 0) y ≡ true) (sym z) (sym hb) held)
-              | inr o ↦ elim o [
-                | inl below ↦ ap (λ (r : ℕ). bit r c) (sym (narrow-below i below)) ∙ next-in i c li h
-                | inr above ↦ next-above i c above li h .0
-              ]
-            ]
-          ]
+            inr l ↦ absurd (past i c l h)
+          | inl li ↦ elim (cases-order i u) [
+              inl z ↦ (let hb : c ≡ b = next-here c (subst (λ (x : ℕ). bit (getD next x 0) c ≡ true) z h) in
+                       subst₂ (λ (x y : ℕ). bit (getD rows x 0) y ≡ true) (sym z) (sym hb) held)
+            | inr o ↦ elim o [
+                inl below ↦ ap (λ (r : ℕ). bit r c) (sym (narrow-below i below)) ∙ next-in i c li h
+              | inr above ↦ next-above i c above li h .0 ] ] ]
 
       -- a wanted placement with the bay b at unit u is within the rows after the try
       to-next : (q : List ℕ) → Wanted w last tied rows q → getD q u 0 ≡ b → Wanted w last tied′ next q
@@ -175,42 +173,36 @@ module _ (w : Setting) (last : List ℕ) (lawful : Lawful (w .filter)) (gu : Sou
           record {
             placed = h .placed;
             within = kept w lawful gu gb (narrowed (w .arrangement) (w .room) (w .strict) u b rows) q (h .placed)
-                (λ i l. ap (λ (r : ℕ). bit r (getD q i 0)) (narrow-at i l) ∙ elim (cases-order i u) [
-                  | inl z ↦ subst (λ (x : ℕ). bit (narrowed-row (w .arrangement) (w .room) (w .strict) u b rows x) (getD q x 0) ≡ true) (sym z)
-                      (ap (λ (r : ℕ). bit r (getD q u 0)) narrow-here ∙ ap (λ (y : ℕ). bit (2 ^ b) y) at ∙ bit-bit b)
-                  | inr o ↦ elim o [
-                    | inl below ↦ ap (λ (r : ℕ). bit r (getD q i 0)) (narrow-below i below) ∙ h .within i l
-                    | inr above ↦ ap (λ (r : ℕ). bit r (getD q i 0)) (narrow-above i above) ∙ bit-and (getD rows i 0) (agreeing i) (getD q i 0)
-                        ∙ and-from (bit (getD rows i 0) (getD q i 0)) (bit (agreeing i) (getD q i 0)) (h .within i l)
+              (λ i l. ap (λ (r : ℕ). bit r (getD q i 0)) (narrow-at i l) ∙ elim (cases-order i u) [
+                  inl z ↦ subst (λ (x : ℕ). bit (narrowed-row (w .arrangement) (w .room) (w .strict) u b rows x) (getD q x 0) ≡ true) (sym z)
+                            (ap (λ (r : ℕ). bit r (getD q u 0)) narrow-here ∙ ap (λ (y : ℕ). bit (2 ^ b) y) at ∙ bit-bit b)
+                | inr o ↦ elim o [
+                    inl below ↦ ap (λ (r : ℕ). bit r (getD q i 0)) (narrow-below i below) ∙ h .within i l
+                  | inr above ↦ ap (λ (r : ℕ). bit r (getD q i 0)) (narrow-above i above) ∙ bit-and (getD rows i 0) (agreeing i) (getD q i 0)
+                      ∙ and-from (bit (getD rows i 0) (getD q i 0)) (bit (agreeing i) (getD q i 0)) (h .within i l)
                         (has-agreeing i (getD q i 0) ∙ and-from _ _ (lt-ltb (getD q i 0) (w .room .count) (h .placed .on-bays i l))
-                        (subst (λ (y : ℕ). agrees (w .arrangement) (w .room) (w .strict) u y i (getD q i 0) ≡ true) at (h .placed .agree u i (omega arith) l (λ z. omega arith))))
-                  ]
-                ]);
+                          (subst (λ (y : ℕ). agrees (w .arrangement) (w .room) (w .strict) u y i (getD q i 0) ≡ true) at (h .placed .agree u i (omega arith) l (λ z. omega arith)))) ] ]);
             after = λ t. h .after (and-parts tied (eqb b (getD last u 0)) t .0);
           }
 
       from-next : (q : List ℕ) → (tied ≡ true → b < getD last u 0 → ⊥) → Wanted w last tied′ next q → Wanted w last tied rows q × (getD q u 0 ≡ b)
       from-next q fair h =
           let at : getD q u 0 ≡ b = next-here (getD q u 0) (h .within u (omega arith)) in
-          let within : (k : ℕ) → k < m → bit (getD rows k 0) (getD q k 0) ≡ true = λ i l. next-back i (getD q i 0) (h .within i l) in (
-            record {
-              placed = h .placed;
-              within = within;
-              after = λ t. elim (cases-order b (getD last u 0)) [
-                | inl z ↦ h .after (and-from tied (eqb b (getD last u 0)) t (eq-eqb b (getD last u 0) z))
-                | inr o ↦ elim o [
-                  | inl less ↦ absurd (fair t less)
-                  | inr more ↦ record {
-                    unit = u;
-                    below = omega arith;
-                    same = λ k l. sym (st .level t k (getD q k 0) l (within k (omega arith)));
-                    lower = omega arith;
-                  }
-                ]
-              ];
-            },
-            at,
-          )
+          let within : (k : ℕ) → k < m → bit (getD rows k 0) (getD q k 0) ≡ true = λ i l. next-back i (getD q i 0) (h .within i l) in
+          (record {
+             placed = h .placed;
+             within = within;
+             after = λ t. elim (cases-order b (getD last u 0)) [
+                 inl z ↦ h .after (and-from tied (eqb b (getD last u 0)) t (eq-eqb b (getD last u 0) z))
+               | inr o ↦ elim o [
+                   inl less ↦ absurd (fair t less)
+                 | inr more ↦ record {
+                     unit = u;
+                     below = omega arith;
+                     same = λ k l. sym (st .level t k (getD q k 0) l (within k (omega arith)));
+                     lower = omega arith;
+                   } ] ];
+           }, at)
 
       sub-stands : (tied′ ≡ true → later ≡ 0 → ⊥) → any-empty next ≡ false → Stands w last tied′ (suc u) next
       sub-stands notlast full =
@@ -219,23 +211,20 @@ module _ (w : Setting) (last : List ℕ) (lawful : Lawful (w .filter)) (gu : Sou
             low = λ i c h. st .low i c (next-back i c h);
             full = full;
             settled = λ i j c d l lj ljm hc hd. elim (cases-lt i u) [
-              | inl below ↦ st .settled i j c d below lj ljm (next-back i c hc) (next-back j d hd)
+                inl below ↦ st .settled i j c d below lj ljm (next-back i c hc) (next-back j d hd)
               | inr here ↦ (let z : i ≡ u = omega arith in
-                  let cb : c ≡ b = next-here c (subst (λ (x : ℕ). bit (getD next x 0) c ≡ true) z hc) in
-                  subst₂ (λ (x y : ℕ). agrees (w .arrangement) (w .room) (w .strict) x y j d ≡ true) (sym z) (sym cb) (next-above j d (omega arith) ljm hd .1))
-            ];
+                            let cb : c ≡ b = next-here c (subst (λ (x : ℕ). bit (getD next x 0) c ≡ true) z hc) in
+                            subst₂ (λ (x y : ℕ). agrees (w .arrangement) (w .room) (w .strict) x y j d ≡ true) (sym z) (sym cb) (next-above j d (omega arith) ljm hd .1)) ];
             single = λ i c d l hc hd. elim (cases-lt i u) [
-              | inl below ↦ st .single i c d below (next-back i c hc) (next-back i d hd)
+                inl below ↦ st .single i c d below (next-back i c hc) (next-back i d hd)
               | inr here ↦ (let z : i ≡ u = omega arith in
-                  next-here c (subst (λ (x : ℕ). bit (getD next x 0) c ≡ true) z hc) ∙ sym (next-here d (subst (λ (x : ℕ). bit (getD next x 0) d ≡ true) z hd)))
-            ];
+                            next-here c (subst (λ (x : ℕ). bit (getD next x 0) c ≡ true) z hc) ∙ sym (next-here d (subst (λ (x : ℕ). bit (getD next x 0) d ≡ true) z hd))) ];
             level = λ t i c l hc. elim (cases-lt i u) [
-              | inl below ↦ st .level (and-parts tied (eqb b (getD last u 0)) t .0) i c below (next-back i c hc)
+                inl below ↦ st .level (and-parts tied (eqb b (getD last u 0)) t .0) i c below (next-back i c hc)
               | inr here ↦ (let z : i ≡ u = omega arith in
-                  next-here c (subst (λ (x : ℕ). bit (getD next x 0) c ≡ true) z hc)
-                  ∙ eqb-true b (getD last u 0) (and-parts tied (eqb b (getD last u 0)) t .1)
-                  ∙ ap (λ (x : ℕ). getD last x 0) (sym z))
-            ];
+                            next-here c (subst (λ (x : ℕ). bit (getD next x 0) c ≡ true) z hc)
+                            ∙ eqb-true b (getD last u 0) (and-parts tied (eqb b (getD last u 0)) t .1)
+                            ∙ ap (λ (x : ℕ). getD last x 0) (sym z)) ];
             apart = λ t. elim (cases-eq later 0) [ inl z ↦ absurd (notlast t z) | inr ne ↦ omega arith ];
           }
 
@@ -245,26 +234,21 @@ module _ (w : Setting) (last : List ℕ) (lawful : Lawful (w .filter)) (gu : Sou
         let held : bit (getD rows u 0) b ≡ true = subst (λ (y : ℕ). bit (getD rows u 0) y ≡ true) at (h .within u (omega arith)) in
         let l : ℕ = getD last u 0 in
         elim (and-cases (bit (getD rows u 0) b) _ off) [
-          | inl z ↦ both-ways _ z held
-          | inr z ↦ (let t = and-parts tied (ltb b l || eqb b l && eqb later 0) (not-false _ z) in
-              let B = h .after (t .0) in
-              let same-below : (k : ℕ) → k < u → getD q k 0 ≡ getD last k 0 = λ k lk. st .level (t .0) k (getD q k 0) lk (h .within k (omega arith)) in
-              elim (cases-order (B .unit) u) [
-                | inl x ↦ (let low : l < getD q u 0 = subst (λ (y : ℕ). getD last y 0 < getD q y 0) x (B .lower) in
-                    elim (or-cases (ltb b l) (eqb b l && eqb later 0) (t .1)) [
-                      | inl y ↦ (let f = ltb-true b l y in omega arith)
-                      | inr y ↦ (let f = eqb-true b l (and-parts (eqb b l) (eqb later 0) y .0) in omega arith)
-                    ])
-                | inr o ↦ elim o [
-                  | inl below ↦ (let s = same-below (B .unit) below in let f = B .lower in omega arith)
-                  | inr above ↦ (let s : l ≡ getD q u 0 = B .same u above in
-                      elim (or-cases (ltb b l) (eqb b l && eqb later 0) (t .1)) [
-                        | inl y ↦ (let f = ltb-true b l y in omega arith)
-                        | inr y ↦ (let f = eqb-true later 0 (and-parts (eqb b l) (eqb later 0) y .1) in let g = B .below in omega arith)
-                      ])
-                ]
-              ])
-        ]
+          inl z ↦ both-ways _ z held
+        | inr z ↦ (let t = and-parts tied (ltb b l || eqb b l && eqb later 0) (not-false _ z) in
+                   let B = h .after (t .0) in
+                   let same-below : (k : ℕ) → k < u → getD q k 0 ≡ getD last k 0 = λ k lk. st .level (t .0) k (getD q k 0) lk (h .within k (omega arith)) in
+                   elim (cases-order (B .unit) u) [
+                     inl x ↦ (let low : l < getD q u 0 = subst (λ (y : ℕ). getD last y 0 < getD q y 0) x (B .lower) in
+                              elim (or-cases (ltb b l) (eqb b l && eqb later 0) (t .1)) [
+                                inl y ↦ (let f = ltb-true b l y in omega arith)
+                              | inr y ↦ (let f = eqb-true b l (and-parts (eqb b l) (eqb later 0) y .0) in omega arith) ])
+                   | inr o ↦ elim o [
+                       inl below ↦ (let s = same-below (B .unit) below in let f = B .lower in omega arith)
+                     | inr above ↦ (let s : l ≡ getD q u 0 = B .same u above in
+                                    elim (or-cases (ltb b l) (eqb b l && eqb later 0) (t .1)) [
+                                      inl y ↦ (let f = ltb-true b l y in omega arith)
+                                    | inr y ↦ (let f = eqb-true later 0 (and-parts (eqb b l) (eqb later 0) y .1) in let g = B .below in omega arith) ]) ] ]) ]
 
     -- what an offered bay says
     offer-held : offered (getD rows u 0) tied (getD last u 0) (eqb later 0) b ≡ true → bit (getD rows u 0) b ≡ true
@@ -301,13 +285,13 @@ module _ (w : Setting) (last : List ℕ) (lawful : Lawful (w .filter)) (gu : Sou
       scan-first (w .room .count) (Wanted w last tied rows) (λ q. getD q u 0) (offered (getD rows u 0) tied (getD last u 0) (eqb later 0)) _
       (λ q h. h .placed .on-bays u (omega arith))
       (λ p q hp hq l. record {
-        unit = u;
-        below = omega arith;
-        same = λ k lk. st .single k (getD p k 0) (getD q k 0) lk (hp .within k (omega arith)) (hq .within k (omega arith));
-        lower = l;
-      })
+         unit = u;
+         below = omega arith;
+         same = λ k lk. st .single k (getD p k 0) (getD q k 0) lk (hp .within k (omega arith)) (hq .within k (omega arith));
+         lower = l;
+       })
       (λ b o l. attempt tied u later b rows e st o
-      (counted (settle w last later (tied && eqb b (getD last u 0)) (suc u) (after-try w u b rows)))
-      (λ z. settle-first later (tied && eqb b (getD last u 0)) (suc u) (after-try w u b rows) (omega arith) (sub-stands tied u later b rows e st (offer-held tied u later b rows e st o) (offer-inner tied u later b rows e st o) z))
-      (any-empty (after-try w u b rows)) refl)
+                 (counted (settle w last later (tied && eqb b (getD last u 0)) (suc u) (after-try w u b rows)))
+                 (λ z. settle-first later (tied && eqb b (getD last u 0)) (suc u) (after-try w u b rows) (omega arith) (sub-stands tied u later b rows e st (offer-held tied u later b rows e st o) (offer-inner tied u later b rows e st o) z))
+                 (any-empty (after-try w u b rows)) refl)
       (λ b o l. no-offer tied u later b rows e st o)

@@ -21,6 +21,7 @@ use Rattle.search.proofs.Scan.{answers-iff}
 use Rattle.search.proofs.First.{Wanted, kept, one-empty, Stands, settle-first}
 
 module _ (w : Setting) (last : List ℕ) (tied : Bool) (rows : List ℕ) (lawful : Lawful (w .filter)) (ga : Sound (w .arrangement)) (gr : Sound (w .room)) (sh : Shape (w .arrangement) (w .room) rows) where
+
   back : (i c : ℕ) → bit (getD (filtered w rows) i 0) c ≡ true → bit (getD rows i 0) c ≡ true
   back i c h = lawful .adds-none (w .arrangement) (w .room) (w .strict) rows i c h
 
@@ -44,9 +45,9 @@ module _ (w : Setting) (last : List ℕ) (tied : Bool) (rows : List ℕ) (lawful
   either : (o : Outcome) → (any-empty (filtered w rows) ≡ false → Answers (Wanted w last tied (filtered w rows)) (o .found)) → (t : Bool) → any-empty (filtered w rows) ≡ t
       → Answers (Wanted w last tied rows) ((elim t as (λ _. Outcome) [ true ↦ nothing 0 | false ↦ o ]) .found)
   either o a true z = λ q h.
-      let s = one-empty (filtered w rows) (ltb-true 0 (empty-count (filtered w rows)) z) in
-      let f = there q h .within (s .0) (omega (arith, s .1, long)) in
-      both-ways _ (ap (λ (r : ℕ). bit r (getD q (s .0) 0)) (s .2) ∙ bit-none (getD q (s .0) 0)) f
+    let s = one-empty (filtered w rows) (ltb-true 0 (empty-count (filtered w rows)) z) in
+    let f = there q h .within (s .0) (omega (arith, s .1, long)) in
+    both-ways _ (ap (λ (r : ℕ). bit r (getD q (s .0) 0)) (s .2) ∙ bit-none (getD q (s .0) 0)) f
   either o a false z =
       answers-iff (Wanted w last tied (filtered w rows)) (Wanted w last tied rows) (o .found)
       (λ q h. record { placed = h .placed; within = λ i l. back i (getD q i 0) (h .within i l); after = h .after })

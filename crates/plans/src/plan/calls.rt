@@ -20,14 +20,7 @@ impl Plan {
         ensures fresh { λ r. ⌜ Fresh r ⌝ }
         ensures law { λ _. ⌜ Law ⌝ }
     {
-        Plan {
-            units: 1,
-            bays: 1,
-            struck: [0; 24],
-            fit: false,
-            fitted: [0; 24],
-            last: None,
-        }
+        Plan { units: 1, bays: 1, struck: [0; 24], fit: false, fitted: [0; 24], last: None }
     }
 
     // Starts the plan over.
@@ -37,14 +30,7 @@ impl Plan {
         if units < 1 || units > 24 || bays < 1 || bays > 64 {
             return Err(Refusal::Sizes);
         }
-        *self = Plan {
-            units,
-            bays,
-            struck: [0; 24],
-            fit: false,
-            fitted: [0; 24],
-            last: None,
-        };
+        *self = Plan { units, bays, struck: [0; 24], fit: false, fitted: [0; 24], last: None };
         Ok(())
     }
 
@@ -79,12 +65,7 @@ impl Plan {
     }
 
     // Fits exactly the pairs whose cards suit by the book.
-    pub fn fit<B: Book>(
-        &mut self,
-        book: &B,
-        units: &[B::UnitCard],
-        bays: &[B::BayCard],
-    ) -> Result<(), Refusal>
+    pub fn fit<B: Book>(&mut self, book: &B, units: &[B::UnitCard], bays: &[B::BayCard]) -> Result<(), Refusal>
         ensures { λ r. ⌜ Step (now (self .entry)) (turn (fit (handed (B·Book .suiting (now (book .entry))) (now (units .entry)) (now (bays .entry)))) (doing r) []) (now (self .exit)) ⌝ }
     {
         if units.len() != self.units || bays.len() != self.bays {
@@ -96,12 +77,7 @@ impl Plan {
     }
 
     // Drops the fitted pairs that the book refuses.
-    pub fn fit_further<B: Book>(
-        &mut self,
-        book: &B,
-        units: &[B::UnitCard],
-        bays: &[B::BayCard],
-    ) -> Result<(), Refusal>
+    pub fn fit_further<B: Book>(&mut self, book: &B, units: &[B::UnitCard], bays: &[B::BayCard]) -> Result<(), Refusal>
         ensures { λ r. ⌜ Step (now (self .entry)) (turn (fit-further (handed (B·Book .suiting (now (book .entry))) (now (units .entry)) (now (bays .entry)))) (doing r) []) (now (self .exit)) ⌝ }
     {
         if units.len() != self.units || bays.len() != self.bays {

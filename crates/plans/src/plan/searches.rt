@@ -29,14 +29,7 @@ fn copy(from: &[u8; 24], units: usize, out: &mut [u8])
 
 impl Plan {
     // The first placement within the open pairs, into the buffer, with the tries.
-    pub fn seek<A: Source, R: Source, F: Filter>(
-        &mut self,
-        arrangement: &A,
-        room: &R,
-        strict: bool,
-        filter: &F,
-        out: &mut [u8],
-    ) -> Result<u32, Refusal>
+    pub fn seek<A: Source, R: Source, F: Filter>(&mut self, arrangement: &A, room: &R, strict: bool, filter: &F, out: &mut [u8]) -> Result<u32, Refusal>
         ensures step { λ r. ⌜ Step (now (self .entry)) (turn (seek (setting (A·Source .graph (now (arrangement .entry))) (R·Source .graph (now (room .entry))) strict (F·Filter .left (now (filter .entry)))) (now (out .entry))) (finding r) (now (out .exit))) (now (self .exit)) ⌝ }
         ensures shows { λ _. ⌜ Shows (seek (setting (A·Source .graph (now (arrangement .entry))) (R·Source .graph (now (room .entry))) strict (F·Filter .left (now (filter .entry)))) (now (out .entry))) ⌝ }
     {
@@ -64,14 +57,7 @@ impl Plan {
     }
 
     // The first placement after the last answer, into the buffer, with the tries.
-    pub fn further<A: Source, R: Source, F: Filter>(
-        &mut self,
-        arrangement: &A,
-        room: &R,
-        strict: bool,
-        filter: &F,
-        out: &mut [u8],
-    ) -> Result<u32, Refusal>
+    pub fn further<A: Source, R: Source, F: Filter>(&mut self, arrangement: &A, room: &R, strict: bool, filter: &F, out: &mut [u8]) -> Result<u32, Refusal>
         ensures step { λ r. ⌜ Step (now (self .entry)) (turn (further (setting (A·Source .graph (now (arrangement .entry))) (R·Source .graph (now (room .entry))) strict (F·Filter .left (now (filter .entry)))) (now (out .entry))) (finding r) (now (out .exit))) (now (self .exit)) ⌝ }
         ensures shows { λ _. ⌜ Shows (further (setting (A·Source .graph (now (arrangement .entry))) (R·Source .graph (now (room .entry))) strict (F·Filter .left (now (filter .entry)))) (now (out .entry))) ⌝ }
     {
@@ -89,14 +75,7 @@ impl Plan {
         }
         let units = self.units;
         let rows = without(&self.fitted, &self.struck);
-        match next_after(
-            arrangement,
-            room,
-            strict,
-            filter,
-            &rows[0..units],
-            &last[0..units],
-        ) {
+        match next_after(arrangement, room, strict, filter, &rows[0..units], &last[0..units]) {
             Ok(find) => {
                 copy(&find.bays, units, out);
                 let newest = Some(find.bays);
@@ -109,15 +88,7 @@ impl Plan {
     }
 
     // Whether some placement within the open pairs has the unit on the bay, with the tries; the guard puts the row back.
-    pub fn what_if<A: Source, R: Source, F: Filter>(
-        &mut self,
-        unit: usize,
-        bay: usize,
-        arrangement: &A,
-        room: &R,
-        strict: bool,
-        filter: &F,
-    ) -> Result<u32, Refusal>
+    pub fn what_if<A: Source, R: Source, F: Filter>(&mut self, unit: usize, bay: usize, arrangement: &A, room: &R, strict: bool, filter: &F) -> Result<u32, Refusal>
         ensures step { λ r. ⌜ Step (now (self .entry)) (turn (what-if unit bay (setting (A·Source .graph (now (arrangement .entry))) (R·Source .graph (now (room .entry))) strict (F·Filter .left (now (filter .entry))))) (asking r) []) (now (self .exit)) ⌝ }
         ensures shows { λ _. ⌜ Shows (what-if unit bay (setting (A·Source .graph (now (arrangement .entry))) (R·Source .graph (now (room .entry))) strict (F·Filter .left (now (filter .entry))))) ⌝ }
     {
@@ -133,11 +104,7 @@ impl Plan {
         let units = self.units;
         let struck = self.struck;
         let saved = self.fitted[unit];
-        let guard = Narrowed {
-            rows: &mut self.fitted,
-            unit,
-            saved,
-        };
+        let guard = Narrowed { rows: &mut self.fitted, unit, saved };
         guard.rows[unit] = saved & (1 << bay);
         let rows = without(guard.rows, &struck);
         match first(arrangement, room, strict, filter, &rows[0..units]) {
