@@ -1,3 +1,4 @@
 pub mod Counting
 pub mod Shapes
 pub mod Laws
+pub mod Kept

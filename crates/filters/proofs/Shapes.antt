@@ -114,10 +114,12 @@ widest : (xs : List ℕ) → (n : ℕ) × (all-below n xs ≡ true)
 widest [] = (0, refl)
 widest (x ∷ xs) =
     let t = widest xs in
-    let n : ℕ = x + t .0 in
-    (n, and-from (ltb x (2 ^ n)) (all-below n xs)
-    (lt-ltb x (2 ^ n) (let p = below-pow x in let m : 2 ^ x ≤ 2 ^ n = pow-mono (omega arith) in omega arith))
-    (all-below-from n xs (λ u. let b = all-below-at (t .0) xs (t .1) u in let m : 2 ^ (t .0) ≤ 2 ^ n = pow-mono (omega arith) in omega arith)))
+    let n : ℕ = x + t .0 in (
+      n,
+      and-from (ltb x (2 ^ n)) (all-below n xs)
+          (lt-ltb x (2 ^ n) (let p = below-pow x in let m : 2 ^ x ≤ 2 ^ n = pow-mono (omega arith) in omega arith))
+          (all-below-from n xs (λ u. let b = all-below-at (t .0) xs (t .1) u in let m : 2 ^ (t .0) ≤ 2 ^ n = pow-mono (omega arith) in omega arith)),
+    )
 
 -- a filter that takes nothing away changes nothing
 pub unchanged : (f : Meaning) → Lawful f → (a r : Graph) (strict : Bool) (rows : List ℕ) → pair-count rows ≡ pair-count (f a r strict rows) → f a r strict rows ≡ rows

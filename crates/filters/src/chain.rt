@@ -1,12 +1,12 @@
 // The filter that takes nothing away, and two filters one after the other.
 ghost use mathlib.Core.Path.{_≡_};
 ghost use mathlib.Core.Bool.{true};
-ghost use Prim.Native.Nat.{_≤_};
+ghost use Prim.Native.Nat.{_+_, _^_, _<_, _≤_};
 ghost use Rattle.filters.specs.Filter.{pair-count};
 ghost use Rattle.filters.specs.Composed.{open-meaning, then-meaning};
-use crate::empty_rows;
 use crate::Counts;
 use crate::Filter;
+use crate::nothing_taken;
 use graphs::Source;
 
 // Takes nothing away.
@@ -16,8 +16,26 @@ pub struct Open;
 pub impl Filter for Open as OpenFilter {
     ghost left = { λ _. open-meaning };
 
-    fn apply<A: Source, R: Source>(&self, _arrangement: &A, _room: &R, _strict: bool, rows: &mut [u64]) -> Counts {
-        Counts { taken: 0, empty: empty_rows(rows) }
+    fn apply<A: Source, R: Source>(
+        &self,
+        _arrangement: &A,
+        _room: &R,
+        _strict: bool,
+        rows: &mut [u64],
+    ) -> Counts {
+        nothing_taken(rows)
+    }
+}
+
+// The counts of two filters one after the other.
+fn both(first: Counts, second: Counts) -> Counts
+    requires { ⌜ first .taken + second .taken < 2 ^ 64 ⌝ }
+    ensures taken { λ k. ⌜ k .taken ≡ first .taken + second .taken ⌝ }
+    ensures empty { λ k. ⌜ k .empty ≡ second .empty ⌝ }
+{
+    Counts {
+        taken: first.taken + second.taken,
+        empty: second.empty,
     }
 }
 
@@ -38,22 +56,36 @@ pub struct Then<F, G> {
 pub impl<F: Filter, G: Filter> Filter for Then<F, G> as ThenFilter {
     ghost left = { λ s. then-meaning (F·Filter .left (s .first)) (G·Filter .left (s .second)) };
 
-    fn apply<A: Source, R: Source>(&self, arrangement: &A, room: &R, strict: bool, rows: &mut [u64]) -> Counts {
-        let a = self.first.apply(arrangement, room, strict, rows);
-        let b = self.second.apply(arrangement, room, strict, rows);
-        Counts { taken: a.taken + b.taken, empty: b.empty }
+    fn apply<A: Source, R: Source>(
+        &self,
+        arrangement: &A,
+        room: &R,
+        strict: bool,
+        rows: &mut [u64],
+    ) -> Counts {
+        let first = self.first.apply(arrangement, room, strict, rows);
+        let second = self.second.apply(arrangement, room, strict, rows);
+        both(first, second)
     }
 
-    // The first filter has seen all the rows that the second cut; the second need only be resumed where the first takes nothing away.
-    fn resume<A: Source, R: Source>(&self, arrangement: &A, room: &R, strict: bool, changed: u64, rows: &mut [u64]) -> Counts {
+    // The second filter may have cut any row that the first left, so the first is resumed at all units. Only where it takes nothing
+    // away are the rows cut from what the second left.
+    fn resume<A: Source, R: Source>(
+        &self,
+        arrangement: &A,
+        room: &R,
+        strict: bool,
+        changed: u64,
+        rows: &mut [u64],
+    ) -> Counts {
         if !countable(rows) {
             return self.apply(arrangement, room, strict, rows);
         }
-        let a = self.first.resume(arrangement, room, strict, u64::MAX, rows);
-        if a.taken == 0 {
+        let first = self.first.resume(arrangement, room, strict, u64::MAX, rows);
+        if first.taken == 0 {
             return self.second.resume(arrangement, room, strict, changed, rows);
         }
-        let b = self.second.apply(arrangement, room, strict, rows);
-        Counts { taken: a.taken + b.taken, empty: b.empty }
+        let second = self.second.apply(arrangement, room, strict, rows);
+        both(first, second)
     }
 }

@@ -9,9 +9,9 @@ pub use chain::OpenFilter;
 pub use chain::Then;
 pub use chain::ThenFilter;
 use graphs::Source;
-pub use turns::repeat;
 pub use turns::Repeated;
 pub use turns::RepeatedFilter;
+pub use turns::repeat;
 
 mod chain;
 mod turns;
@@ -30,13 +30,26 @@ pub trait Filter {
     law lawful: { (f : Self) → Lawful (left f) };
 
     // Thins out the rows, one a unit.
-    fn apply<A: Source, R: Source>(&self, arrangement: &A, room: &R, strict: bool, rows: &mut [u64]) -> Counts
+    fn apply<A: Source, R: Source>(
+        &self,
+        arrangement: &A,
+        room: &R,
+        strict: bool,
+        rows: &mut [u64],
+    ) -> Counts
         ensures rows { λ _. ⌜ now (rows .exit) ≡ left (now (self .entry)) (A·Source .graph (now (arrangement .entry))) (R·Source .graph (now (room .entry))) strict (now (rows .entry)) ⌝ }
         ensures counts { λ k. ⌜ Counted (now (rows .entry)) (now (rows .exit)) k ⌝ };
 
     // Does what `apply` does to rows that were cut from rows which the filter has left, and only at the units in `changed`; a
     // filter may save work by it.
-    fn resume<A: Source, R: Source>(&self, arrangement: &A, room: &R, strict: bool, changed: u64, rows: &mut [u64]) -> Counts
+    fn resume<A: Source, R: Source>(
+        &self,
+        arrangement: &A,
+        room: &R,
+        strict: bool,
+        changed: u64,
+        rows: &mut [u64],
+    ) -> Counts
         ensures resumes { λ _. ⌜ Resumes (left (now (self .entry))) (A·Source .graph (now (arrangement .entry))) (R·Source .graph (now (room .entry))) strict changed (now (rows .entry)) (now (rows .exit)) ⌝ }
         ensures counts { λ k. ⌜ Counted (now (rows .entry)) (now (rows .exit)) k ⌝ }
     {
@@ -55,6 +68,16 @@ pub fn empty_rows(rows: &[u64]) -> usize
         }
     }
     empty
+}
+
+// The counts of a filter that takes nothing away from the rows.
+pub fn nothing_taken(rows: &[u64]) -> Counts
+    ensures { λ k. ⌜ Counted (now (rows .entry)) (now (rows .entry)) k ⌝ }
+{
+    Counts {
+        taken: 0,
+        empty: empty_rows(rows),
+    }
 }
 
 // Whether there is one row a unit, at most 24 of them, and no row has a bit at or past the count of bays.

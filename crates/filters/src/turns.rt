@@ -7,7 +7,13 @@ use crate::Filter;
 use graphs::Source;
 
 // Applies the filter until a turn takes nothing away.
-pub fn repeat<F: Filter, A: Source, R: Source>(filter: &F, arrangement: &A, room: &R, strict: bool, rows: &mut [u64]) -> Counts
+pub fn repeat<F: Filter, A: Source, R: Source>(
+    filter: &F,
+    arrangement: &A,
+    room: &R,
+    strict: bool,
+    rows: &mut [u64],
+) -> Counts
     ensures rows { λ _. ⌜ now (rows .exit) ≡ repeat-meaning (F·Filter .left (now (filter .entry))) (A·Source .graph (now (arrangement .entry))) (R·Source .graph (now (room .entry))) strict (now (rows .entry)) ⌝ }
     ensures settles { λ _. ⌜ Settles (F·Filter .left (now (filter .entry)) (A·Source .graph (now (arrangement .entry))) (R·Source .graph (now (room .entry))) strict) (now (rows .entry)) (now (rows .exit)) ⌝ }
     ensures counts { λ k. ⌜ Counted (now (rows .entry)) (now (rows .exit)) k ⌝ }
@@ -17,7 +23,10 @@ pub fn repeat<F: Filter, A: Source, R: Source>(filter: &F, arrangement: &A, room
         let turn = filter.apply(arrangement, room, strict, rows);
         taken += turn.taken;
         if turn.taken == 0 {
-            return Counts { taken, empty: turn.empty };
+            return Counts {
+                taken,
+                empty: turn.empty,
+            };
         }
     }
 }
@@ -31,7 +40,13 @@ pub struct Repeated<F> {
 pub impl<F: Filter> Filter for Repeated<F> as RepeatedFilter {
     ghost left = { λ s. repeat-meaning (F·Filter .left (s .filter)) };
 
-    fn apply<A: Source, R: Source>(&self, arrangement: &A, room: &R, strict: bool, rows: &mut [u64]) -> Counts {
+    fn apply<A: Source, R: Source>(
+        &self,
+        arrangement: &A,
+        room: &R,
+        strict: bool,
+        rows: &mut [u64],
+    ) -> Counts {
         repeat(&self.filter, arrangement, room, strict, rows)
     }
 }

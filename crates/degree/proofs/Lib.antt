@@ -1,0 +1,3 @@
+pub mod Degrees
+pub mod Spared
+pub mod Rooms
