@@ -24,6 +24,7 @@ use Rattle.placements.specs.Order.{Before, Answers}
 use Rattle.filters.specs.Filter.{Lawful, empty-count}
 use Rattle.search.specs.Walk.{Setting, filtered, Outcome, any-empty, narrowed-row, narrowed, after-try, offered, chosen, nothing, counted, scan, settle}
 use Rattle.search.proofs.Agreement.{agrees-flip}
+use Rattle.search.proofs.Narrowing.{narrow-long, narrow-at, narrow-below, narrow-here, narrow-above, narrow-inside, above-holds}
 use Rattle.search.proofs.Scan.{answers-iff, scan-first}
 
 -- ---- rows
@@ -116,71 +117,39 @@ module _ (w : Setting) (last : List ℕ) (lawful : Lawful (w .filter)) (gu : Sou
     tied′ = tied && eqb b (getD last u 0)
 
     next-long : length next ≡ m
-    next-long = lawful .as-many (w .arrangement) (w .room) (w .strict) (narrowed (w .arrangement) (w .room) (w .strict) u b rows) ∙ length-map-counting (narrowed-row (w .arrangement) (w .room) (w .strict) u b rows) 0 (length rows) ∙ st .long
-
-    narrow-at : (i : ℕ) → i < m → getD (narrowed (w .arrangement) (w .room) (w .strict) u b rows) i 0 ≡ narrowed-row (w .arrangement) (w .room) (w .strict) u b rows i
-    narrow-at i l = getD-map-counting (narrowed-row (w .arrangement) (w .room) (w .strict) u b rows) 0 (length rows) i i 0 (omega (arith, st .long)) (omega arith)
-
-    narrow-below : (i : ℕ) → i < u → narrowed-row (w .arrangement) (w .room) (w .strict) u b rows i ≡ getD rows i 0
-    narrow-below i l = cond-true (ltb i u) _ _ (lt-ltb i u l)
-
-    narrow-here : narrowed-row (w .arrangement) (w .room) (w .strict) u b rows u ≡ 2 ^ b
-    narrow-here = cond-false (ltb u u) _ _ (le-ltb u u (omega arith)) ∙ cond-true (eqb u u) _ _ (eq-eqb u u refl)
-
-    agreeing : ℕ → ℕ
-    agreeing i = row-of (w .room .count) (λ c. agrees (w .arrangement) (w .room) (w .strict) u b i c)
-
-    narrow-above : (i : ℕ) → u < i → narrowed-row (w .arrangement) (w .room) (w .strict) u b rows i ≡ bitAnd (getD rows i 0) (agreeing i)
-    unfolding agreeing
-    narrow-above i l = cond-false (ltb i u) _ _ (le-ltb i u (omega arith)) ∙ cond-false (eqb i u) _ _ (ne-eqb i u (λ x. omega arith))
-
-    has-agreeing : (i c : ℕ) → bit (agreeing i) c ≡ (ltb c (w .room .count) && agrees (w .arrangement) (w .room) (w .strict) u b i c)
-    unfolding agreeing
-    has-agreeing i c = bit-row-of (w .room .count) (λ x. agrees (w .arrangement) (w .room) (w .strict) u b i x) c
+    next-long = lawful .as-many (w .arrangement) (w .room) (w .strict) (narrowed (w .arrangement) (w .room) (w .strict) u b rows) ∙ narrow-long (w .arrangement) (w .room) (w .strict) u b rows ∙ st .long
 
     next-in : (i c : ℕ) → i < m → bit (getD next i 0) c ≡ true → bit (narrowed-row (w .arrangement) (w .room) (w .strict) u b rows i) c ≡ true
-    next-in i c l h = ap (λ (r : ℕ). bit r c) (sym (narrow-at i l)) ∙ lawful .adds-none (w .arrangement) (w .room) (w .strict) (narrowed (w .arrangement) (w .room) (w .strict) u b rows) i c h
+    next-in i c l h = ap (λ (r : ℕ). bit r c) (sym (narrow-at (w .arrangement) (w .room) (w .strict) u b rows i (let e = st .long in omega arith))) ∙ lawful .adds-none (w .arrangement) (w .room) (w .strict) (narrowed (w .arrangement) (w .room) (w .strict) u b rows) i c h
 
     next-here : (c : ℕ) → bit (getD next u 0) c ≡ true → c ≡ b
-    next-here c h = bit-bit-only b c (ap (λ (r : ℕ). bit r c) (sym narrow-here) ∙ next-in u c (omega arith) h)
+    next-here c h = bit-bit-only b c (ap (λ (r : ℕ). bit r c) (sym (narrow-here (w .arrangement) (w .room) (w .strict) u b rows)) ∙ next-in u c (omega arith) h)
 
     next-above : (i c : ℕ) → u < i → i < m → bit (getD next i 0) c ≡ true → (bit (getD rows i 0) c ≡ true) × (agrees (w .arrangement) (w .room) (w .strict) u b i c ≡ true)
-    next-above i c l li h =
-        let both = and-parts (bit (getD rows i 0) c) (bit (agreeing i) c) (sym (bit-and (getD rows i 0) (agreeing i) c) ∙ ap (λ (r : ℕ). bit r c) (sym (narrow-above i l)) ∙ next-in i c li h) in
-        let ag = and-parts (ltb c (w .room .count)) (agrees (w .arrangement) (w .room) (w .strict) u b i c) (sym (has-agreeing i c) ∙ both .1) in
-        (both .0, ag .1)
-
-    -- a row at or past m is empty
-    past : (i c : ℕ) → m ≤ i → bit (getD next i 0) c ≡ true → ⊥
-    past i c l h = both-ways _ (ap (λ (r : ℕ). bit r c) (getD-past next i 0 (omega (arith, next-long))) ∙ bit-none c) h
+    next-above i c l li h = above-holds (w .arrangement) (w .room) (w .strict) u b rows i c l (next-in i c li h)
 
     module _ (held : bit (getD rows u 0) b ≡ true) where
 
       next-back : (i c : ℕ) → bit (getD next i 0) c ≡ true → bit (getD rows i 0) c ≡ true
       next-back i c h =
-          elim (cases-lt i m) [
-            inr l ↦ absurd (past i c l h)
-          | inl li ↦ elim (cases-order i u) [
-              inl z ↦ (let hb : c ≡ b = next-here c (subst (λ (x : ℕ). bit (getD next x 0) c ≡ true) z h) in
-                       subst₂ (λ (x y : ℕ). bit (getD rows x 0) y ≡ true) (sym z) (sym hb) held)
-            | inr o ↦ elim o [
-                inl below ↦ ap (λ (r : ℕ). bit r c) (sym (narrow-below i below)) ∙ next-in i c li h
-              | inr above ↦ next-above i c above li h .0 ] ] ]
+          narrow-inside (w .arrangement) (w .room) (w .strict) u b rows held i c
+          (lawful .adds-none (w .arrangement) (w .room) (w .strict) (narrowed (w .arrangement) (w .room) (w .strict) u b rows) i c h)
 
       -- a wanted placement with the bay b at unit u is within the rows after the try
       to-next : (q : List ℕ) → Wanted w last tied rows q → getD q u 0 ≡ b → Wanted w last tied′ next q
       to-next q h at =
+          let mask : ℕ → ℕ = λ i. row-of (w .room .count) (λ x. agrees (w .arrangement) (w .room) (w .strict) u b i x) in
           record {
             placed = h .placed;
             within = kept w lawful gu gb (narrowed (w .arrangement) (w .room) (w .strict) u b rows) q (h .placed)
-              (λ i l. ap (λ (r : ℕ). bit r (getD q i 0)) (narrow-at i l) ∙ elim (cases-order i u) [
+              (λ i l. ap (λ (r : ℕ). bit r (getD q i 0)) (narrow-at (w .arrangement) (w .room) (w .strict) u b rows i (let e = st .long in omega arith)) ∙ elim (cases-order i u) [
                   inl z ↦ subst (λ (x : ℕ). bit (narrowed-row (w .arrangement) (w .room) (w .strict) u b rows x) (getD q x 0) ≡ true) (sym z)
-                            (ap (λ (r : ℕ). bit r (getD q u 0)) narrow-here ∙ ap (λ (y : ℕ). bit (2 ^ b) y) at ∙ bit-bit b)
+                            (ap (λ (r : ℕ). bit r (getD q u 0)) (narrow-here (w .arrangement) (w .room) (w .strict) u b rows) ∙ ap (λ (y : ℕ). bit (2 ^ b) y) at ∙ bit-bit b)
                 | inr o ↦ elim o [
-                    inl below ↦ ap (λ (r : ℕ). bit r (getD q i 0)) (narrow-below i below) ∙ h .within i l
-                  | inr above ↦ ap (λ (r : ℕ). bit r (getD q i 0)) (narrow-above i above) ∙ bit-and (getD rows i 0) (agreeing i) (getD q i 0)
-                      ∙ and-from (bit (getD rows i 0) (getD q i 0)) (bit (agreeing i) (getD q i 0)) (h .within i l)
-                        (has-agreeing i (getD q i 0) ∙ and-from _ _ (lt-ltb (getD q i 0) (w .room .count) (h .placed .on-bays i l))
+                    inl below ↦ ap (λ (r : ℕ). bit r (getD q i 0)) (narrow-below (w .arrangement) (w .room) (w .strict) u b rows i below) ∙ h .within i l
+                  | inr above ↦ ap (λ (r : ℕ). bit r (getD q i 0)) (narrow-above (w .arrangement) (w .room) (w .strict) u b rows i above) ∙ bit-and (getD rows i 0) (mask i) (getD q i 0)
+                      ∙ and-from (bit (getD rows i 0) (getD q i 0)) (bit (mask i) (getD q i 0)) (h .within i l)
+                        (bit-row-of (w .room .count) (λ x. agrees (w .arrangement) (w .room) (w .strict) u b i x) (getD q i 0) ∙ and-from _ _ (lt-ltb (getD q i 0) (w .room .count) (h .placed .on-bays i l))
                           (subst (λ (y : ℕ). agrees (w .arrangement) (w .room) (w .strict) u y i (getD q i 0) ≡ true) at (h .placed .agree u i (omega arith) l (λ z. omega arith)))) ] ]);
             after = λ t. h .after (and-parts tied (eqb b (getD last u 0)) t .0);
           }

@@ -9,6 +9,8 @@ ghost use Rattle.graphs.specs.Rows.{bit, row-of};
 ghost use Rattle.placements.specs.Agreement.{agrees-if};
 ghost use Rattle.filters.specs.Filter.{shaped, all-below};
 ghost use Rattle.search.specs.Masks.{picked};
+ghost use Rattle.search.specs.Walk.{any-empty, narrowed, after-try, offered, chosen, setting, settle, walk, LeftBy};
+ghost use Rattle.search.specs.Found.{padded};
 use filters::Filter;
 use graphs::Source;
 use graphs::holds;
@@ -60,4 +62,59 @@ impl Masks {
             self.apart
         }
     }
+}
+
+// The set of units with `v` in it, where that unit's row was cut.
+fn mark(units: u64, v: usize, cut: bool) -> u64
+    requires { ⌜ v < 64 ⌝ }
+    ensures { λ r. ⌜ ((k : ℕ) → bit r k ≡ false → (bit units k ≡ false) × (k ≡ v → cut ≡ false)) ⌝ }
+{
+    if cut { units | (1 << v) } else { units }
+}
+
+// Into `next` go the rows after unit `u` has taken the bay `b`; the answer is a set of units outside which no row has changed.
+fn narrow<A: Source, R: Source>(arrangement: &A, room: &R, strict: bool, u: usize, b: usize, rows: &[u64], next: &mut [u64]) -> u64
+    requires same { ⌜ length (now next) ≡ length (now rows) ⌝ }
+    requires few { ⌜ length (now rows) ≤ 24 ⌝ }
+    requires unit { ⌜ u < length (now rows) ⌝ }
+    requires bay { ⌜ b < 64 ⌝ }
+    ensures next { λ _. ⌜ now (next .exit) ≡ narrowed (A·Source .graph (now (arrangement .entry))) (R·Source .graph (now (room .entry))) strict u b (now (rows .entry)) ⌝ }
+    ensures changed { λ r. ⌜ ((v : ℕ) → bit r v ≡ false → getD (now (next .exit)) v 0 ≡ getD (now (rows .entry)) v 0) ⌝ }
+{
+    let masks = Masks::new(room, strict, b);
+    let out = arrangement.row(u);
+    let back = arrangement.column(u);
+    next.copy_from_slice(rows);
+    next[u] = 1 << b;
+    let mut changed: u64 = 1 << u;
+    for v in u + 1..rows.len() {
+        let kept = rows[v] & masks.of(holds(out, v), holds(back, v));
+        changed = mark(changed, v, kept != rows[v]);
+        next[v] = kept;
+    }
+    changed
+}
+
+// The bays in order that are tried for a unit with this row; `bound` is the last answer's bay for it.
+fn offers(row: u64, tied: bool, bound: usize, last_unit: bool) -> u64
+    requires { ⌜ bound < 256 ⌝ }
+    ensures { λ r. ⌜ ((b : ℕ) → bit r b ≡ offered row tied bound «last_unit» b) ⌝ }
+{
+    if !tied {
+        return row;
+    }
+    let from = if last_unit { bound + 1 } else { bound };
+    if from < 64 { row & !((1 << from) - 1) } else { 0 }
+}
+
+// The lowest bay of each row, and zeros behind.
+fn lowest_bays(rows: &[u64]) -> [u8; 24]
+    requires { ⌜ length (now rows) ≤ 24 ⌝ }
+    ensures { λ r. ⌜ r ≡ padded (chosen (now (rows .entry))) ⌝ }
+{
+    let mut bays = [0u8; 24];
+    for i in 0..rows.len() {
+        bays[i] = rows[i].trailing_zeros() as u8;
+    }
+    bays
 }
