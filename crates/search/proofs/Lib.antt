@@ -5,3 +5,5 @@ pub mod First
 pub mod Whole
 pub mod OfferedRow
 pub mod LowestBays
+pub mod Lowest
+pub mod Steps

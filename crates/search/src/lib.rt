@@ -10,7 +10,7 @@ ghost use Rattle.placements.specs.Agreement.{agrees-if};
 ghost use Rattle.filters.specs.Filter.{shaped, all-below};
 ghost use Rattle.search.specs.Masks.{picked};
 ghost use Rattle.search.specs.Walk.{any-empty, narrowed, after-try, offered, chosen, setting, settle, walk, LeftBy};
-ghost use Rattle.search.specs.Found.{padded};
+ghost use Rattle.search.specs.Found.{padded, padded-found};
 use filters::Filter;
 use graphs::Source;
 use graphs::holds;
@@ -37,6 +37,13 @@ struct Masks {
     out: u64,
     back: u64,
     apart: u64,
+}
+
+// What settling the units came to: the bays of a placement with zeros behind, or none, and the tries so far.
+#[derive(Clone, Copy)]
+struct Settled {
+    found: Option<[u8; 24]>,
+    tries: u32,
 }
 
 impl Masks {
@@ -117,4 +124,55 @@ fn lowest_bays(rows: &[u64]) -> [u8; 24]
         bays[i] = rows[i].trailing_zeros() as u8;
     }
     bays
+}
+
+// One try: into `next` go the rows that it leaves, and the answer says whether one of them is empty.
+fn attempt<A: Source, R: Source, F: Filter>(arrangement: &A, room: &R, strict: bool, filter: &F, u: usize, b: usize, rows: &[u64], next: &mut [u64]) -> bool
+    requires same { ⌜ length (now next) ≡ length (now rows) ⌝ }
+    requires few { ⌜ length (now rows) ≤ 24 ⌝ }
+    requires unit { ⌜ u < length (now rows) ⌝ }
+    requires held { ⌜ bit (getD (now rows) u 0) b ≡ true ⌝ }
+    requires left { ⌜ LeftBy (setting (A·Source .graph (now arrangement)) (R·Source .graph (now room)) strict (F·Filter .left (now filter))) (now rows) ⌝ }
+    ensures left { λ _. ⌜ now (next .exit) ≡ after-try (setting (A·Source .graph (now (arrangement .entry))) (R·Source .graph (now (room .entry))) strict (F·Filter .left (now (filter .entry)))) u b (now (rows .entry)) ⌝ }
+    ensures empty { λ r. ⌜ r ≡ any-empty (now (next .exit)) ⌝ }
+{
+    let changed = narrow(arrangement, room, strict, u, b, rows, next);
+    filter.resume(arrangement, room, strict, changed, next).empty > 0
+}
+
+// Settles the units from `u` upward.
+fn settle_from<A: Source, R: Source, F: Filter>(arrangement: &A, room: &R, strict: bool, filter: &F, last: &[u8], tied: bool, u: usize, rows: &[u64], tries: u32) -> Settled
+    requires few { ⌜ length (now rows) ≤ 24 ⌝ }
+    requires lasting { ⌜ length (now rows) ≤ length (now last) ⌝ }
+    requires left { ⌜ LeftBy (setting (A·Source .graph (now arrangement)) (R·Source .graph (now room)) strict (F·Filter .left (now filter))) (now rows) ⌝ }
+    ensures found { λ r. ⌜ r .found ≡ padded-found (settle (setting (A·Source .graph (now (arrangement .entry))) (R·Source .graph (now (room .entry))) strict (F·Filter .left (now (filter .entry)))) (now (last .entry)) (length (now (rows .entry)) - u) tied u (now (rows .entry)) .found) ⌝ }
+    ensures tries { λ r. ⌜ r .tries ≡ min (tries + settle (setting (A·Source .graph (now (arrangement .entry))) (R·Source .graph (now (room .entry))) strict (F·Filter .left (now (filter .entry)))) (now (last .entry)) (length (now (rows .entry)) - u) tied u (now (rows .entry)) .tries) 4294967295 ⌝ }
+{
+    if u >= rows.len() {
+        return Settled {
+            found: Some(lowest_bays(rows)),
+            tries,
+        };
+    }
+    let bound = last[u] as usize;
+    let mut so_far = tries;
+    let mut next = [0u64; 24];
+    let mut rest = offers(rows[u], tied, bound, u + 1 == rows.len());
+    while rest != 0 {
+        let b = rest.trailing_zeros() as usize;
+        rest &= rest - 1;
+        so_far = so_far.saturating_add(1);
+        let part = &mut next[0..rows.len()];
+        if !attempt(arrangement, room, strict, filter, u, b, rows, part) {
+            let deeper = settle_from(arrangement, room, strict, filter, last, tied & (b == bound), u + 1, part, so_far);
+            if deeper.found.is_some() {
+                return deeper;
+            }
+            so_far = deeper.tries;
+        }
+    }
+    Settled {
+        found: None,
+        tries: so_far,
+    }
 }
