@@ -7,3 +7,4 @@ pub mod OfferedRow
 pub mod LowestBays
 pub mod Lowest
 pub mod Steps
+pub mod Going

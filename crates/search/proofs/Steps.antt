@@ -5,7 +5,7 @@ use mathlib.Core.List.{List, _++_}
 use mathlib.Core.Bool.{Bool, true, false, not, _&&_}
 use Prim.Native.Nat.{ℕ, zero, suc, _+_, _-_, _^_, _<_, _≤_, min}
 use native.Mathlib.Omega.{arith}
-use lib.Bits.{bitAnd}
+use lib.Bits.{bitAnd, and-le-r}
 use lib.Count.{trailingZeros}
 use lib.Dec.{eqb, leb}
 use lib.ListN.{length, getD}
@@ -84,6 +84,9 @@ goes-there total rest here rest′ t₀ t t′ g e some is = go (here .found) re
         (let s : rest .tries ≡ here .tries = ap (λ (o : Outcome). o .tries) e′ in let h = g .tries in omega arith))
 
 -- ---- the row of the bays still to be tried
+
+pub rest-falls : (rest : ℕ) → (rest ≡ 0 → ⊥) → bitAnd rest (rest - 1) < rest
+rest-falls rest some = let a = and-le-r rest (rest - 1) in let n : 0 < rest = omega (arith, some) in omega arith
 
 -- `rest` holds the offered bays from `at` on, and the scan from there is still to come
 pub record Turn (total : Outcome) (offer : ℕ → Bool) (here : ℕ → Outcome) (n t₀ t rest : ℕ) : Type 0 where

@@ -1,98 +1,100 @@
+use mathlib.Core.Path.{_≡_, refl, sym, ap, _∙_}
+use mathlib.Core.List.{List}
+use Prim.Native.Nat.{ℕ, _+_, _-_, _<_, _≤_}
+use native.Mathlib.Omega.{arith}
 use borrow.Author.Needs.{needs}
+use lib.Count.{trailingZeros}
+use lib.ListN.{length}
+use Rattle.std.proofs.shelf.Lists.{length-take-le}
+use Rattle.search.specs.Walk.{Setting, setting, LeftBy}
+use Rattle.search.proofs.Going.{Settles, going-none, going-start, bay-held, going-fails, going-back, going-there, going-end}
+use Rattle.search.proofs.Narrowing.{left-next}
+use Rattle.search.proofs.Steps.{as-long, rest-falls}
 use Rattle.search.proofs.+settle_from.Needs as need
 
--- src/lib.rt:153:25
-pub lowest-bays-requires : need.lowest-bays-requires
-lowest-bays-requires g t c κs = ?
-
--- src/lib.rt:152:9
 pub returns-then-u-rows : need.returns-then-u-rows
-returns-then-u-rows g t c = ?
+returns-then-u-rows g t c =
+    let w : Setting = setting (g .A·Source .graph (c .args .arrangement .now)) (g .R·Source .graph (c .args .room .now)) (c .args .strict) (g .F·Filter .left (c .args .filter .now)) in
+    let s = going-none w (c .args .last .now) (c .args .tied) (c .args .u) (c .args .rows .now) (c .args .tries) (c .lowest-bays .result) (c .if-u-rows .taken) (c .fits .tries .fits) (c .lowest-bays .ensures) in
+    record { found = s .bays; tries = s .tries }
 
--- src/lib.rt:157:17
-pub index-last-u : need.index-last-u
-index-last-u g t c = ?
-
--- src/lib.rt:160:27
-pub offset-rows-u : need.offset-rows-u
-offset-rows-u g t c = ?
-
--- src/lib.rt:160:27
-pub index-rows-u : need.index-rows-u
-index-rows-u g t c = ?
-
--- src/lib.rt:160:49
-pub add-u : need.add-u
-add-u g t c = ?
-
--- src/lib.rt:160:9
-pub offers-rest-requires : need.offers-rest-requires
-offers-rest-requires g t c κs = ?
-
--- src/lib.rt:161:5
 pub loop-rest-holds : need.loop-rest-holds
-loop-rest-holds g t c = ?
+loop-rest-holds g t c =
+    let w : Setting = setting (g .A·Source .graph (c .args .arrangement .now)) (g .R·Source .graph (c .args .room .now)) (c .args .strict) (g .F·Filter .left (c .args .filter .now)) in
+    going-start w (c .args .last .now) (c .args .tied) (c .args .u) (c .args .rows .now) (g .F·Filter·met .lawful (c .args .filter .now)) (g .R·Source .sound (c .args .room .now) .few) (c .pre .left)
+    (c .args .tries) (c .offers-rest .result) _ (c .if-u-rows .left) (c .offers-rest .ensures) (c .offers-rest .ok) (c .fits .tries .fits) refl
 
--- src/lib.rt:162:17
-pub cast-b : need.cast-b
-cast-b g t c = ?
-
--- src/lib.rt:163:17
-pub sub-rest : need.sub-rest
-sub-rest g t c = ?
-
--- src/lib.rt:164:9
-pub saturating-add-so-far-requires : need.saturating-add-so-far-requires
-saturating-add-so-far-requires g t c κs = ?
-
--- src/lib.rt:165:20
-pub part-part-count : need.part-part-count
-part-part-count g t c = ?
-
--- src/lib.rt:165:20
-pub part-next-start : need.part-next-start
-part-next-start g t c = ?
-
--- src/lib.rt:165:20
 pub part-next-end : need.part-next-end
-part-next-end g t c = ?
+part-next-end g t c = let k = c .loop-rest .inv .long in search needs
 
--- src/lib.rt:166:13
 pub attempt-requires : need.attempt-requires
-attempt-requires g t c κs = ?
+attempt-requires g t c κs =
+    let w : Setting = setting (g .A·Source .graph (c .args .arrangement .now)) (g .R·Source .graph (c .args .room .now)) (c .args .strict) (g .F·Filter .left (c .args .filter .now)) in
+    let some : 0 < c .loop-rest .rest = omega (arith, c .loop-rest-test .taken) in
+    record {
+      same = length-take-le (length (c .args .rows .now) - 0) (c .loop-rest .next) (omega (arith, c .loop-rest .inv .long, c .pre .few)) ∙ (let z : length (c .args .rows .now) - 0 ≡ length (c .args .rows .now) = omega arith in z);
+      few = c .pre .few;
+      unit = c .if-u-rows .left;
+      held = bay-held w (c .args .last .now) (c .args .tied) (c .args .u) (c .args .rows .now) (g .F·Filter·met .lawful (c .args .filter .now)) (g .R·Source .sound (c .args .room .now) .few) (c .pre .left)
+    (c .args .tries) (c .loop-rest .so-far) (c .loop-rest .rest) (c .loop-rest .next) (c .loop-rest .inv) some;
+      left = c .pre .left;
+    }
 
--- src/lib.rt:167:100
-pub add-u-then-not-attempt : need.add-u-then-not-attempt
-add-u-then-not-attempt g t c = ?
-
--- src/lib.rt:167:26
 pub settle-from-deeper-requires : need.settle-from-deeper-requires
-settle-from-deeper-requires g t c κs within = ?
+settle-from-deeper-requires g t c κs =
+    let w : Setting = setting (g .A·Source .graph (c .args .arrangement .now)) (g .R·Source .graph (c .args .room .now)) (c .args .strict) (g .F·Filter .left (c .args .filter .now)) in
+    let some : 0 < c .loop-rest .rest = omega (arith, c .loop-rest-test .taken) in
+    let lawful = g .F·Filter·met .lawful (c .args .filter .now) in
+    let b : ℕ = trailingZeros 64 (c .loop-rest .rest) in
+    let long : length (c .args .rows .now) ≡ length (c .attempt .last .next) = as-long w (c .args .last .now) (c .args .tied) (c .args .u) b (c .args .rows .now) (c .attempt .last .next) (c .attempt .ensures .left) lawful in
+    let left : LeftBy w (c .attempt .last .next) = left-next w (c .args .rows .now) lawful (c .pre .left) (c .args .u) b
+    (bay-held w (c .args .last .now) (c .args .tied) (c .args .u) (c .args .rows .now) (g .F·Filter·met .lawful (c .args .filter .now)) (g .R·Source .sound (c .args .room .now) .few) (c .pre .left)
+    (c .args .tries) (c .loop-rest .so-far) (c .loop-rest .rest) (c .loop-rest .next) (c .loop-rest .inv) some)
+    (c .attempt .last .next) (c .attempt .ensures .left) in
+    search needs
 
--- src/lib.rt:168:16
-pub is-some-requires : need.is-some-requires
-is-some-requires g t c κs = ?
-
--- src/lib.rt:169:17
 pub returns-then-is-some : need.returns-then-is-some
-returns-then-is-some g t c = ?
+returns-then-is-some g t c =
+    let w : Setting = setting (g .A·Source .graph (c .args .arrangement .now)) (g .R·Source .graph (c .args .room .now)) (c .args .strict) (g .F·Filter .left (c .args .filter .now)) in
+    let some : 0 < c .loop-rest .rest = omega (arith, c .loop-rest-test .taken) in
+    let deep = c .settle-from-deeper .ensures in
+    let s = going-there w (c .args .last .now) (c .args .tied) (c .args .u) (c .args .rows .now) (g .F·Filter·met .lawful (c .args .filter .now)) (g .R·Source .sound (c .args .room .now) .few) (c .pre .left)
+    (c .args .tries) (c .loop-rest .so-far) (c .loop-rest .rest) (c .loop-rest .next) (c .loop-rest .inv) some
+    (c .attempt .last .next) (c .attempt .ensures .left) (c .pre .few) (c .saturating-add-so-far .result) (c .saturating-add-so-far .ensures)
+    (sym (c .attempt .ensures .empty) ∙ c .if-not-attempt .taken) (c .settle-from-deeper .result .found) (c .settle-from-deeper .result .tries) (record { bays = deep .found; tries = deep .tries })
+    (sym (c .is-some .ensures) ∙ c .if-is-some .taken) in
+    record { found = s .bays; tries = s .tries }
 
--- src/lib.rt:161:5
 pub loop-rest-less-then-not-attempt : need.loop-rest-less-then-not-attempt
-loop-rest-less-then-not-attempt g t c = ?
+loop-rest-less-then-not-attempt g t c = rest-falls (c .loop-rest .rest) (c .loop-rest-test .taken)
 
--- src/lib.rt:161:5
 pub loop-rest-again-then-not-attempt : need.loop-rest-again-then-not-attempt
-loop-rest-again-then-not-attempt g t c = ?
+loop-rest-again-then-not-attempt g t c =
+    let w : Setting = setting (g .A·Source .graph (c .args .arrangement .now)) (g .R·Source .graph (c .args .room .now)) (c .args .strict) (g .F·Filter .left (c .args .filter .now)) in
+    let some : 0 < c .loop-rest .rest = omega (arith, c .loop-rest-test .taken) in
+    let deep = c .settle-from-deeper .ensures in
+    going-back w (c .args .last .now) (c .args .tied) (c .args .u) (c .args .rows .now) (g .F·Filter·met .lawful (c .args .filter .now)) (g .R·Source .sound (c .args .room .now) .few) (c .pre .left)
+    (c .args .tries) (c .loop-rest .so-far) (c .loop-rest .rest) (c .loop-rest .next) (c .loop-rest .inv) some
+    (c .attempt .last .next) (c .attempt .ensures .left) (c .pre .few) (c .saturating-add-so-far .result) (c .saturating-add-so-far .ensures)
+    (sym (c .attempt .ensures .empty) ∙ c .if-not-attempt .taken) (c .settle-from-deeper .result .found) (c .settle-from-deeper .result .tries) (record { bays = deep .found; tries = deep .tries })
+    (sym (c .is-some .ensures) ∙ c .if-is-some .left)
 
--- src/lib.rt:161:5
 pub loop-rest-less : need.loop-rest-less
-loop-rest-less g t c = ?
+loop-rest-less g t c = rest-falls (c .loop-rest .rest) (c .loop-rest-test .taken)
 
--- src/lib.rt:161:5
 pub loop-rest-again : need.loop-rest-again
-loop-rest-again g t c = ?
+loop-rest-again g t c =
+    let w : Setting = setting (g .A·Source .graph (c .args .arrangement .now)) (g .R·Source .graph (c .args .room .now)) (c .args .strict) (g .F·Filter .left (c .args .filter .now)) in
+    let some : 0 < c .loop-rest .rest = omega (arith, c .loop-rest-test .taken) in
+    going-fails w (c .args .last .now) (c .args .tied) (c .args .u) (c .args .rows .now) (g .F·Filter·met .lawful (c .args .filter .now)) (g .R·Source .sound (c .args .room .now) .few) (c .pre .left)
+    (c .args .tries) (c .loop-rest .so-far) (c .loop-rest .rest) (c .loop-rest .next) (c .loop-rest .inv) some
+    (c .attempt .last .next) (c .attempt .ensures .left) (c .pre .few) (c .saturating-add-so-far .result) (c .saturating-add-so-far .ensures)
+    (sym (c .attempt .ensures .empty) ∙ c .if-not-attempt .left)
 
--- src/lib.rt:144:1
 pub returns : need.returns
-returns g t c = ?
+returns g t c =
+    let w : Setting = setting (g .A·Source .graph (c .args .arrangement .now)) (g .R·Source .graph (c .args .room .now)) (c .args .strict) (g .F·Filter .left (c .args .filter .now)) in
+    let s = going-end w (c .args .last .now) (c .args .tied) (c .args .u) (c .args .rows .now) (g .F·Filter·met .lawful (c .args .filter .now)) (g .R·Source .sound (c .args .room .now) .few) (c .pre .left)
+    (c .args .tries) (c .loop-rest .so-far) (c .loop-rest .rest) (c .loop-rest .next) (c .loop-rest .inv)
+    (c .loop-rest-test .left) in
+    record { found = s .bays; tries = s .tries }
