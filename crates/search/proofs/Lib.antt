@@ -1,10 +1,11 @@
 pub mod Agreement
 pub mod Scan
 pub mod Narrowing
-pub mod First
+pub mod Placing
 pub mod Whole
 pub mod OfferedRow
 pub mod LowestBays
 pub mod Lowest
 pub mod Steps
 pub mod Going
+pub mod Answered

@@ -1,11 +1,10 @@
 -- The whole search answers the first placement within its rows. Assumes nothing.
 use mathlib.Core.Path.{_≡_, refl, ap, _∙_}
-use mathlib.Core.List.{List}
+use mathlib.Core.List.{List, []}
 use mathlib.Core.Bool.{Bool, true, false}
 use Prim.Native.Nat.{ℕ, _<_}
 use native.Mathlib.Omega.{arith}
 use lib.ListN.{length, getD}
-use Rattle.std.specs.Options.{isSome}
 use Rattle.std.specs.declared.option.Option.{Option}
 use Rattle.std.specs.declared.option.Option.the-variants.{Some, None}
 use Rattle.std.proofs.shelf.Tests.{both-ways, false≢true, ltb-true}
@@ -15,10 +14,10 @@ use Rattle.graphs.proofs.Bits.{bit-none}
 use Rattle.placements.specs.Order.{Answers}
 use Rattle.filters.specs.Filter.{Lawful, shaped, empty-count}
 use Rattle.filters.proofs.Shapes.{Shape, shape-of}
-use Rattle.search.specs.Walk.{Setting, filtered, Outcome, any-empty, nothing, settle, bays-of, walk}
+use Rattle.search.specs.Walk.{Setting, filtered, Outcome, any-empty, nothing, settle, walk-from, walk}
 use Rattle.search.specs.Found.{Sought, SoughtAfter, Finds-first, Finds-next}
 use Rattle.search.proofs.Scan.{answers-iff}
-use Rattle.search.proofs.First.{Wanted, kept, one-empty, Stands, settle-first}
+use Rattle.search.proofs.Placing.{Wanted, kept, one-empty, Stands, settle-first}
 
 module _ (w : Setting) (last : List ℕ) (tied : Bool) (rows : List ℕ) (lawful : Lawful (w .filter)) (ga : Sound (w .arrangement)) (gr : Sound (w .room)) (sh : Shape (w .arrangement) (w .room) rows) where
 
@@ -59,21 +58,21 @@ module _ (w : Setting) (last : List ℕ) (tied : Bool) (rows : List ℕ) (lawful
       (λ z. settle-first w last lawful ga gr (w .arrangement .count) tied 0 (filtered w rows) (omega arith) (stands z))
       (any-empty (filtered w rows)) refl
 
-pub whole : (w : Setting) (last : Option (List ℕ)) (rows : List ℕ) → Lawful (w .filter) → Sound (w .arrangement) → Sound (w .room) → shaped (w .arrangement) (w .room) rows ≡ true
-    → Answers (Wanted w (bays-of last) (isSome last) rows) (walk w last rows .found)
-unfolding walk
-whole w last rows lawful ga gr sh = settles w (bays-of last) (isSome last) rows lawful ga gr (shape-of (w .arrangement) (w .room) rows sh)
+pub whole : (w : Setting) (last : List ℕ) (tied : Bool) (rows : List ℕ) → Lawful (w .filter) → Sound (w .arrangement) → Sound (w .room) → shaped (w .arrangement) (w .room) rows ≡ true
+    → Answers (Wanted w last tied rows) (walk-from w last tied rows .found)
+unfolding walk-from
+whole w last tied rows lawful ga gr sh = settles w last tied rows lawful ga gr (shape-of (w .arrangement) (w .room) rows sh)
 
 pub finds-first : Finds-first
 finds-first w rows lawful ga gr sh =
-    answers-iff (Wanted w (bays-of None) false rows) (Sought (w .arrangement) (w .room) (w .strict) rows) (walk w None rows .found)
+    answers-iff (Wanted w [] false rows) (Sought (w .arrangement) (w .room) (w .strict) rows) (walk w None rows .found)
     (λ q h. (h .placed, λ u l. h .within u (let e = h .placed .whole in omega arith)))
     (λ q h. record { placed = h .0; within = λ u l. h .1 u (let e = h .0 .whole in omega arith); after = λ t. absurd (false≢true t) })
-    (whole w None rows lawful ga gr sh)
+    (whole w [] false rows lawful ga gr sh)
 
 pub finds-next : Finds-next
 finds-next w rows last lawful ga gr sh =
     answers-iff (Wanted w last true rows) (SoughtAfter (w .arrangement) (w .room) (w .strict) rows last) (walk w (Some last) rows .found)
     (λ q h. (h .placed, (λ u l. h .within u (let e = h .placed .whole in omega arith)), h .after refl))
     (λ q h. record { placed = h .0; within = λ u l. h .1 u (let e = h .0 .whole in omega arith); after = λ t. h .2 })
-    (whole w (Some last) rows lawful ga gr sh)
+    (whole w last true rows lawful ga gr sh)

@@ -1,17 +1,19 @@
 // The search for a placement: units are settled one after another, bays in rising order.
 ghost use mathlib.Core.Path.{_≡_};
-ghost use mathlib.Core.Bool.{Bool, true, false};
+ghost use mathlib.Core.Bool.{Bool, true, false, _&&_};
 ghost use mathlib.Core.List.{List};
 ghost use Prim.Native.Nat.{ℕ, _+_, _-_, _<_, _≤_, min};
+ghost use lib.Dec.{leb};
 ghost use lib.ListN.{length, getD, take};
 ghost use Rattle.std.specs.declared.option.Option.the-variants.{Some, None};
 ghost use Rattle.graphs.specs.Rows.{bit, row-of};
 ghost use Rattle.placements.specs.Agreement.{agrees-if};
 ghost use Rattle.filters.specs.Filter.{shaped, all-below};
 ghost use Rattle.search.specs.Masks.{picked};
-ghost use Rattle.search.specs.Walk.{any-empty, narrowed, after-try, offered, chosen, setting, settle, walk, LeftBy};
-ghost use Rattle.search.specs.Found.{padded, padded-found};
+ghost use Rattle.search.specs.Walk.{any-empty, narrowed, after-try, offered, chosen, setting, settle, walk, walk-from, LeftBy};
+ghost use Rattle.search.specs.Found.{padded, padded-found, answer-with, answer-of, Sought, SoughtAfter, Searched, Finds-first, Finds-next};
 use filters::Filter;
+use filters::well_shaped;
 use graphs::Source;
 use graphs::holds;
 use placements::agreeing;
@@ -175,4 +177,53 @@ fn settle_from<A: Source, R: Source, F: Filter>(arrangement: &A, room: &R, stric
         found: None,
         tries: so_far,
     }
+}
+
+// The whole search within the rows, from the start or (tied) after the last answer.
+fn search_rows<A: Source, R: Source, F: Filter>(arrangement: &A, room: &R, strict: bool, filter: &F, last: &[u8], tied: bool, rows: &[u64]) -> Result<Find, SearchError>
+    requires shape { ⌜ shaped (A·Source .graph (now arrangement)) (R·Source .graph (now room)) (now rows) ≡ true ⌝ }
+    requires few { ⌜ length (now rows) ≤ 24 ⌝ }
+    requires lasting { ⌜ length (now rows) ≤ length (now last) ⌝ }
+    ensures { λ r. ⌜ r ≡ answer-with (walk-from (setting (A·Source .graph (now (arrangement .entry))) (R·Source .graph (now (room .entry))) strict (F·Filter .left (now (filter .entry)))) (now (last .entry)) tied (now (rows .entry)) .found) (walk-from (setting (A·Source .graph (now (arrangement .entry))) (R·Source .graph (now (room .entry))) strict (F·Filter .left (now (filter .entry)))) (now (last .entry)) tied (now (rows .entry)) .tries) ⌝ }
+{
+    let mut start = [0u64; 24];
+    let part = &mut start[0..rows.len()];
+    part.copy_from_slice(rows);
+    if filter.apply(arrangement, room, strict, part).empty > 0 {
+        return Err(SearchError::NoPlacement { tries: 0 });
+    }
+    let settled = settle_from(arrangement, room, strict, filter, last, tied, 0, part, 0);
+    match settled.found {
+        Some(bays) => Ok(Find {
+            bays,
+            tries: settled.tries,
+        }),
+        None => Err(SearchError::NoPlacement {
+            tries: settled.tries,
+        }),
+    }
+}
+
+// The first placement within the rows in dictionary order.
+pub fn first<A: Source, R: Source, F: Filter>(arrangement: &A, room: &R, strict: bool, filter: &F, rows: &[u64]) -> Result<Find, SearchError>
+    ensures answer { λ r. ⌜ r ≡ answer-of (shaped (A·Source .graph (now (arrangement .entry))) (R·Source .graph (now (room .entry))) (now (rows .entry))) (walk (setting (A·Source .graph (now (arrangement .entry))) (R·Source .graph (now (room .entry))) strict (F·Filter .left (now (filter .entry)))) None (now (rows .entry))) ⌝ }
+    ensures first { λ r. ⌜ (shaped (A·Source .graph (now (arrangement .entry))) (R·Source .graph (now (room .entry))) (now (rows .entry)) ≡ true → Searched (Sought (A·Source .graph (now (arrangement .entry))) (R·Source .graph (now (room .entry))) strict (now (rows .entry))) (length (now (rows .entry))) (walk (setting (A·Source .graph (now (arrangement .entry))) (R·Source .graph (now (room .entry))) strict (F·Filter .left (now (filter .entry)))) None (now (rows .entry)) .tries) r) ⌝ }
+    ensures theorem { λ _. ⌜ Finds-first ⌝ }
+{
+    if !well_shaped(arrangement, room, rows) {
+        return Err(SearchError::IllShaped);
+    }
+    search_rows(arrangement, room, strict, filter, &[0u8; 24], false, rows)
+}
+
+// The first placement within the rows that comes after the last answer in dictionary order.
+pub fn next_after<A: Source, R: Source, F: Filter>(arrangement: &A, room: &R, strict: bool, filter: &F, rows: &[u64], last: &[u8]) -> Result<Find, SearchError>
+    ensures answer { λ r. ⌜ r ≡ answer-of (shaped (A·Source .graph (now (arrangement .entry))) (R·Source .graph (now (room .entry))) (now (rows .entry)) && leb (length (now (rows .entry))) (length (now (last .entry)))) (walk (setting (A·Source .graph (now (arrangement .entry))) (R·Source .graph (now (room .entry))) strict (F·Filter .left (now (filter .entry)))) (Some (take (length (now (rows .entry))) (now (last .entry)))) (now (rows .entry))) ⌝ }
+    ensures next { λ r. ⌜ ((shaped (A·Source .graph (now (arrangement .entry))) (R·Source .graph (now (room .entry))) (now (rows .entry)) && leb (length (now (rows .entry))) (length (now (last .entry)))) ≡ true → Searched (SoughtAfter (A·Source .graph (now (arrangement .entry))) (R·Source .graph (now (room .entry))) strict (now (rows .entry)) (take (length (now (rows .entry))) (now (last .entry)))) (length (now (rows .entry))) (walk (setting (A·Source .graph (now (arrangement .entry))) (R·Source .graph (now (room .entry))) strict (F·Filter .left (now (filter .entry)))) (Some (take (length (now (rows .entry))) (now (last .entry)))) (now (rows .entry)) .tries) r) ⌝ }
+    ensures theorem { λ _. ⌜ Finds-next ⌝ }
+{
+    if !(well_shaped(arrangement, room, rows) & (rows.len() <= last.len())) {
+        return Err(SearchError::IllShaped);
+    }
+    search_rows(arrangement, room, strict, filter, &last[0..rows.len()], true, rows)
 }
