@@ -1,30 +1,27 @@
 -- From the walk to what is answered. Assumes nothing.
 use mathlib.Core.Path.{_≡_, refl, sym, ap, subst, _∙_, fun-ext}
-use mathlib.Core.List.{List, [], _∷_, _++_}
-use mathlib.Core.Bool.{Bool, true, false, cond, _&&_}
+use mathlib.Core.List.{List}
+use mathlib.Core.Bool.{Bool, true, false}
 use Prim.Native.Nat.{ℕ, zero, suc, _+_, _-_, _<_, _≤_, min}
 use native.Mathlib.Omega.{arith}
-use lib.Dec.{ltb}
-use lib.ListN.{length, getD, take, replicate}
+use lib.ListN.{length, getD, replicate}
 use Rattle.std.specs.declared.option.Option.{Option}
 use Rattle.std.specs.declared.option.Option.the-variants.{Some, None}
 use Rattle.std.specs.declared.result.Result.{Result}
 use Rattle.std.specs.declared.result.Result.the-variants.{Ok, Err}
 use Rattle.std.proofs.shelf.Lists.{take-at}
 use Rattle.std.proofs.shelf.Tests.{lt-ltb, le-ltb, cond-true, cond-false}
-use Rattle.graphs.specs.Graph.{Graph}
 use Rattle.placements.specs.Order.{IsFirst, Answers}
-use Rattle.filters.specs.Filter.{Meaning, Lawful, empty-count}
+use Rattle.filters.specs.Filter.{Lawful, empty-count}
 use Rattle.search.specs.declared.Find.{Find}
 use Rattle.search.specs.declared.SearchError.{SearchError}
 use Rattle.search.specs.declared.SearchError.the-variants.{IllShaped, NoPlacement}
-use Rattle.search.specs.Walk.{Setting, setting, filtered, Outcome, any-empty, narrowed, after-try, offered, nothing, counted, scan, tried, settle, walk-from}
+use Rattle.search.specs.Walk.{Setting, filtered, Outcome, any-empty, after-try, offered, nothing, counted, scan, settle, walk-from}
 use Rattle.search.specs.Found.{told, padded, padded-found, answer-with, answer-of, Searched}
 
 -- ---- the walk's start
 
 module _ (w : Setting) (last : List ℕ) (tied : Bool) (rows part : List ℕ) (is : part ≡ filtered w rows) where
-
   either : Bool → Outcome
   either t = elim t as (λ _. Outcome) [ true ↦ nothing 0 | false ↦ settle w last (w .arrangement .count) tied 0 (filtered w rows) ]
 
@@ -77,7 +74,6 @@ answer-none o t e is = go (o .found) e
 
 -- what the whole search answers, by what its start and its walk came to
 module _ (w : Setting) (last : List ℕ) (tied : Bool) (rows part : List ℕ) (is : part ≡ filtered w rows) (empty : ℕ) (count : empty ≡ empty-count part) where
-
   abbrev Answer : Result Find SearchError
   Answer = answer-with (walk-from w last tied rows .found) (walk-from w last tied rows .tries)
 
@@ -85,7 +81,6 @@ module _ (w : Setting) (last : List ℕ) (tied : Bool) (rows part : List ℕ) (i
   answers-empty l = sym (ap (λ (o : Outcome). answer-with (o .found) (o .tries)) (walk-empty w last tied rows part is (lt-ltb 0 (empty-count part) (omega arith))))
 
   module _ (lawful : Lawful (w .filter)) (long : length rows ≡ w .arrangement .count) (full : empty ≤ 0) (t : ℕ) (tries : t ≡ min (0 + settle w last (length part - 0) tied 0 part .tries) 4294967295) where
-
     same : settle w last (length part - 0) tied 0 part ≡ walk-from w last tied rows
     same = sym (walk-full w last tied rows part is lawful long (le-ltb 0 (empty-count part) (omega arith)))
 

@@ -1,5 +1,5 @@
 -- The loop over the bays of one unit, in what the code holds. Assumes nothing.
-use mathlib.Core.Path.{_≡_, refl, sym, ap, subst, _∙_}
+use mathlib.Core.Path.{_≡_, sym, ap, _∙_}
 use mathlib.Core.List.{List, _++_}
 use mathlib.Core.Bool.{Bool, true, false, not, _&&_, _||_}
 use Prim.Native.Nat.{ℕ, _+_, _-_, _^_, _<_, _≤_, min}
@@ -48,7 +48,6 @@ going-none w last tied u rows t bays l small is =
     }
 
 module _ (w : Setting) (last : List ℕ) (tied : Bool) (u : ℕ) (rows : List ℕ) (lawful : Lawful (w .filter)) (few : w .room .count ≤ 64) (left : LeftBy w rows) where
-
   abbrev Offer : ℕ → Bool
   Offer = offer-at last tied u rows
 
@@ -74,9 +73,7 @@ module _ (w : Setting) (last : List ℕ) (tied : Bool) (u : ℕ) (rows : List �
   under b o = left-under w rows lawful left u b (held b o)
 
   module _ (t₀ t rest : ℕ) (next : List ℕ) (going : Going w last tied u rows t₀ t rest next) where
-
     module _ (some : 0 < rest) where
-
       abbrev b : ℕ
       b = trailingZeros 64 rest
 
@@ -84,7 +81,6 @@ module _ (w : Setting) (last : List ℕ) (tied : Bool) (u : ℕ) (rows : List �
       bay-held = held b (lowest-offered Total Offer Here (w .room .count) t₀ t rest few under (going .fits) (going .turn) some)
 
       module _ (part : List ℕ) (is : part ≡ after-try w u (trailingZeros 64 rest) rows) (short : length rows ≤ 24) (t′ : ℕ) (one : t′ ≡ min (t + 1) 4294967295) where
-
         rest-fits : bitAnd rest (rest - 1) < 2 ^ 64
         rest-fits = let a = and-le-l rest (rest - 1) in let f = going .fits in omega arith
 
@@ -103,8 +99,7 @@ module _ (w : Setting) (last : List ℕ) (tied : Bool) (u : ℕ) (rows : List �
             }
 
         module _ (full : any-empty part ≡ false) (found : Option (List ℕ)) (d : ℕ)
-                 (deep : Settles (settle-at w last (tied && eqb (trailingZeros 64 rest) (getD last u 0)) (u + 1) part) t′ found d) where
-
+            (deep : Settles (settle-at w last (tied && eqb (trailingZeros 64 rest) (getD last u 0)) (u + 1) part) t′ found d) where
           abbrev Deeper : Outcome
           Deeper = settle-at w last (tied && eqb b (getD last u 0)) (u + 1) part
 

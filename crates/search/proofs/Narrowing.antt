@@ -1,8 +1,8 @@
 -- The rows once a unit has taken a bay. Assumes nothing.
 use mathlib.Core.Path.{_≡_, refl, sym, ap, ap₂, subst, subst₂, _∙_}
-use mathlib.Core.Logic.{_⊎_, inl, inr, _≢_}
+use mathlib.Core.Logic.{inl, inr}
 use mathlib.Core.List.{List}
-use mathlib.Core.Bool.{Bool, true, false, not, _&&_, _||_}
+use mathlib.Core.Bool.{Bool, true, false, not, _&&_}
 use Prim.Native.Nat.{ℕ, _+_, _*_, _%_, _^_, _<_, _≤_}
 use native.Mathlib.Omega.{arith}
 use lib.Bits.{bitAnd, bitOr}
@@ -10,12 +10,12 @@ use lib.Dec.{eqb, ltb}
 use lib.ListN.{length, getD, set}
 use Rattle.std.proofs.shelf.Bits.{one-shl}
 use Rattle.std.proofs.shelf.Lists.{length-set, getD-set-same, getD-set-other}
-use Rattle.std.proofs.shelf.Counted.{length-map-counting, getD-map-counting, fill-by-all}
+use Rattle.std.proofs.shelf.Counted.{length-map-counting, getD-map-counting}
 use Rattle.std.proofs.shelf.Edits.{fill-by-more}
-use Rattle.std.proofs.shelf.Tests.{eq-eqb, ne-eqb, eqb-true, eqb-false, lt-ltb, le-ltb, cond-true, cond-false, cases-lt, cases-eq, cases-order, both-ways, and-parts, or-parts, not-false}
+use Rattle.std.proofs.shelf.Tests.{eq-eqb, ne-eqb, eqb-true, lt-ltb, le-ltb, cond-true, cond-false, cases-lt, cases-eq, cases-order, both-ways, and-parts, or-parts, not-false}
 use Rattle.graphs.specs.Rows.{bit, row-of}
 use Rattle.graphs.specs.Graph.{Graph}
-use Rattle.graphs.proofs.Bits.{bit-and, bit-or, bit-bit, bit-bit-only, bit-none}
+use Rattle.graphs.proofs.Bits.{bit-and, bit-or, bit-bit, bit-bit-only}
 use Rattle.graphs.proofs.Rows.{bit-row-of}
 use Rattle.placements.specs.Agreement.{agrees, agrees-if}
 use Rattle.filters.specs.Filter.{Inside, CutFrom, Lawful, shaped}
@@ -23,7 +23,6 @@ use Rattle.filters.proofs.Shapes.{shaped-kept, bit-unit, shape-of}
 use Rattle.search.specs.Walk.{narrowed-row, narrowed, Setting, filtered, after-try, LeftBy}
 
 module _ (a r : Graph) (s : Bool) (u b : ℕ) (rows : List ℕ) where
-
   pub narrow-long : length (narrowed a r s u b rows) ≡ length rows
   narrow-long = length-map-counting (narrowed-row a r s u b rows) 0 (length rows)
 
@@ -124,7 +123,6 @@ row-kept a r s u b rows v x out back l eo eb e =
 -- ---- rows that the filter has left
 
 module _ (w : Setting) (rows : List ℕ) (lawful : Lawful (w .filter)) (from : LeftBy w rows) where
-
   pub left-shaped : shaped (w .arrangement) (w .room) rows ≡ true
   left-shaped =
       subst (λ (x : List ℕ). shaped (w .arrangement) (w .room) x ≡ true) (sym (from .is))
@@ -136,7 +134,6 @@ module _ (w : Setting) (rows : List ℕ) (lawful : Lawful (w .filter)) (from : L
   left-under = shape-of (w .arrangement) (w .room) rows left-shaped .under
 
   module _ (u b : ℕ) (held : bit (getD rows u 0) b ≡ true) where
-
     pub left-next : (part : List ℕ) → part ≡ after-try w u b rows → LeftBy w part
     left-next part e = record {
       before = narrowed (w .arrangement) (w .room) (w .strict) u b rows;

@@ -1,6 +1,6 @@
 -- The row of the bays that are offered. Assumes nothing.
 use mathlib.Core.Path.{_≡_, refl, sym, ap, _∙_}
-use mathlib.Core.Logic.{_⊎_, inl, inr}
+use mathlib.Core.Logic.{inl, inr}
 use mathlib.Core.Bool.{Bool, true, false, not, cond, _&&_, _||_}
 use Prim.Native.Nat.{ℕ, _+_, _-_, _*_, _%_, _^_, _<_, _≤_}
 use native.Mathlib.Omega.{arith}
@@ -23,7 +23,6 @@ passed bound true b = grind (arith, tells)
 passed bound false b = grind (arith, tells)
 
 module _ (row bound : ℕ) (final : Bool) (from : ℕ) (fits : row < 2 ^ 64) (is : from ≡ start-of bound final) where
-
   offer-is : (b : ℕ) (x : Bool) → (bit row b ≡ true → x ≡ not (ltb b from)) → (bit row b && x) ≡ offered row true bound final b
   offer-is b x h =
       elim (cases-bool (bit row b)) [
@@ -37,12 +36,12 @@ module _ (row bound : ℕ) (final : Bool) (from : ℕ) (fits : row < 2 ^ 64) (is
       let one : (1 * 2 ^ from) % 18446744073709551616 ≡ 2 ^ from = one-shl from 64 l in
       let less : 2 ^ from < 2 ^ 64 = pow-below from 64 l in
       let lows : bit low b ≡ ltb b from =
-        ap (λ (n : ℕ). bit n b) (let z : low ≡ (2 ^ from - 1) - 0 = omega arith in z)
-        ∙ bit-not from 0 b (pow-pos from) ∙ ap (λ (t : Bool). ltb b from && not t) (bit-none b) ∙ and-true (ltb b from) in
+      ap (λ (n : ℕ). bit n b) (let z : low ≡ (2 ^ from - 1) - 0 = omega arith in z)
+      ∙ bit-not from 0 b (pow-pos from) ∙ ap (λ (t : Bool). ltb b from && not t) (bit-none b) ∙ and-true (ltb b from) in
       bit-and row (18446744073709551615 - low) b
       ∙ offer-is b (bit (18446744073709551615 - low) b)
-        (λ t. let lb : b < 64 = bit-below row 64 b fits t in
-        bit-not 64 low b (omega arith) ∙ ap (λ (y : Bool). y && not (bit low b)) (lt-ltb b 64 lb) ∙ ap not lows)
+      (λ t. let lb : b < 64 = bit-below row 64 b fits t in
+      bit-not 64 low b (omega arith) ∙ ap (λ (y : Bool). y && not (bit low b)) (lt-ltb b 64 lb) ∙ ap not lows)
     where
       and-true : (t : Bool) → (t && true) ≡ t
       and-true true = refl

@@ -1,6 +1,6 @@
 -- The steps of the loop over the bays of one unit. Assumes nothing.
 use mathlib.Core.Path.{_≡_, refl, sym, ap, subst, _∙_}
-use mathlib.Core.Logic.{_⊎_, inl, inr}
+use mathlib.Core.Logic.{inl, inr}
 use mathlib.Core.List.{List, _++_}
 use mathlib.Core.Bool.{Bool, true, false, not, _&&_}
 use Prim.Native.Nat.{ℕ, zero, suc, _+_, _-_, _^_, _<_, _≤_, min}
@@ -19,7 +19,7 @@ use Rattle.std.proofs.shelf.Ways.{tells}
 use Rattle.graphs.specs.Rows.{bit}
 use Rattle.graphs.proofs.Bits.{bit-none, bit-lowest}
 use Rattle.filters.specs.Filter.{Lawful}
-use Rattle.search.specs.Walk.{Setting, filtered, Outcome, any-empty, narrowed, after-try, offered, nothing, counted, or-else, scan, tried, settle, chosen}
+use Rattle.search.specs.Walk.{Setting, Outcome, any-empty, narrowed, after-try, offered, nothing, counted, or-else, scan, tried, settle, chosen}
 use Rattle.search.specs.Found.{padded-found}
 use Rattle.search.proofs.Lowest.{below-lowest, lowest-off}
 use Rattle.search.proofs.Narrowing.{narrow-long}
@@ -27,7 +27,6 @@ use Rattle.search.proofs.Narrowing.{narrow-long}
 -- ---- a scan
 
 module _ (offer : ℕ → Bool) (here : ℕ → Outcome) (n b : ℕ) (l : b < n) where
-
   whole-step : scan offer here b (n - b) ≡ scan offer here b (suc (n - (b + 1)))
   whole-step = ap (scan offer here b) (let z : n - b ≡ suc (n - (b + 1)) = omega arith in z)
 
@@ -79,9 +78,10 @@ goes-there total rest here rest′ t₀ t t′ g e some is = go (here .found) re
     go : (o : Option (List ℕ)) → here .found ≡ o → (total .found ≡ here .found) × (t′ ≡ min (t₀ + total .tries) 4294967295)
     go None x = absurd (let z : _≡_ {A = Bool} false true = sym (ap isSome x) ∙ some in let y : _≡_ {A = ℕ} 0 1 = cc in omega arith)
     go (Some p) x =
-        let e′ : rest ≡ or-else (Some p) (here .tries) rest′ = e ∙ ap (λ (o : Option (List ℕ)). or-else o (here .tries) rest′) x in
-        (g .found ∙ ap (λ (o : Outcome). o .found) e′ ∙ sym x,
-        (let s : rest .tries ≡ here .tries = ap (λ (o : Outcome). o .tries) e′ in let h = g .tries in omega arith))
+        let e′ : rest ≡ or-else (Some p) (here .tries) rest′ = e ∙ ap (λ (o : Option (List ℕ)). or-else o (here .tries) rest′) x in (
+          g .found ∙ ap (λ (o : Outcome). o .found) e′ ∙ sym x,
+          (let s : rest .tries ≡ here .tries = ap (λ (o : Outcome). o .tries) e′ in let h = g .tries in omega arith),
+        )
 
 -- ---- the row of the bays still to be tried
 
@@ -104,10 +104,8 @@ turn-start total offer here n t rest e bits = record {
 }
 
 module _ (total : Outcome) (offer : ℕ → Bool) (here : ℕ → Outcome) (n t₀ t rest : ℕ) (few : n ≤ 64) (under : (c : ℕ) → offer c ≡ true → c < n)
-         (fits : rest < 2 ^ 64) (turn : Turn total offer here n t₀ t rest) where
-
+    (fits : rest < 2 ^ 64) (turn : Turn total offer here n t₀ t rest) where
   module _ (some : 0 < rest) where
-
     abbrev lowest : ℕ
     lowest = trailingZeros 64 rest
 
@@ -173,14 +171,15 @@ module _ (total : Outcome) (offer : ℕ → Bool) (here : ℕ → Outcome) (n t�
   unfolding scan
   turn-end z small =
       let e : scan offer here (turn .at) (n - turn .at) ≡ nothing 0 =
-        scan-skip offer here n (n - turn .at) (turn .at) (let k = turn .within in omega arith)
-        (λ c lo hi. elim (cases-bool (offer c)) [
-          | inr f ↦ f
-          | inl o ↦ absurd (both-ways _ (ap (λ (x : ℕ). bit x c) z ∙ bit-none c) (turn .bits c ∙ ap (λ (x : Bool). x && offer c) (le-leb (turn .at) c lo) ∙ o))
-        ])
-        ∙ ap (scan offer here (turn .at + (n - turn .at))) (let y : n - (turn .at + (n - turn .at)) ≡ 0 = omega arith in y) in
-      (turn .goes .found ∙ ap (λ (o : Outcome). o .found) e,
-      (let s : scan offer here (turn .at) (n - turn .at) .tries ≡ 0 = ap (λ (o : Outcome). o .tries) e in let h = turn .goes .tries in omega arith))
+      scan-skip offer here n (n - turn .at) (turn .at) (let k = turn .within in omega arith)
+      (λ c lo hi. elim (cases-bool (offer c)) [
+        | inr f ↦ f
+        | inl o ↦ absurd (both-ways _ (ap (λ (x : ℕ). bit x c) z ∙ bit-none c) (turn .bits c ∙ ap (λ (x : Bool). x && offer c) (le-leb (turn .at) c lo) ∙ o))
+      ])
+      ∙ ap (scan offer here (turn .at + (n - turn .at))) (let y : n - (turn .at + (n - turn .at)) ≡ 0 = omega arith in y) in (
+        turn .goes .found ∙ ap (λ (o : Outcome). o .found) e,
+        (let s : scan offer here (turn .at) (n - turn .at) .tries ≡ 0 = ap (λ (o : Outcome). o .tries) e in let h = turn .goes .tries in omega arith),
+      )
 
 -- ---- a unit's walk
 
@@ -208,7 +207,6 @@ tried-is deeper next t e = ap (λ (x : Bool). elim x as (λ _. Outcome) [ true �
 -- ---- one bay of one unit
 
 module _ (w : Setting) (last : List ℕ) (tied : Bool) (u b : ℕ) (rows part : List ℕ) (left : part ≡ after-try w u b rows) where
-
   abbrev Here : Outcome
   Here = trying w last (length rows - (u + 1)) tied u rows b
 
@@ -230,12 +228,12 @@ module _ (w : Setting) (last : List ℕ) (tied : Bool) (u b : ℕ) (rows part : 
   pub try-goes : Lawful (w .filter) → any-empty part ≡ false → (t t′ d : ℕ) → t′ ≡ min (t + 1) 4294967295
       → d ≡ min (t′ + settle w last (length part - (u + 1)) (tied && eqb b (getD last u 0)) (u + 1) part .tries) 4294967295
       → (trying w last (length rows - (u + 1)) tied u rows b .found ≡ settle w last (length part - (u + 1)) (tied && eqb b (getD last u 0)) (u + 1) part .found)
-        × (d ≡ min (t + trying w last (length rows - (u + 1)) tied u rows b .tries) 4294967295)
+      × (d ≡ min (t + trying w last (length rows - (u + 1)) tied u rows b .tries) 4294967295)
   try-goes lawful full t t′ d is dis =
       let e : Here ≡ counted Deeper =
-        tried-is (settle w last (length rows - (u + 1)) (tied && eqb b (getD last u 0)) (u + 1)) (after-try w u b rows) false (ap any-empty (sym left) ∙ full)
-        ∙ ap (λ (p : List ℕ). counted (settle w last (length rows - (u + 1)) (tied && eqb b (getD last u 0)) (u + 1) p)) (sym left)
-        ∙ ap (λ (k : ℕ). counted (settle w last (k - (u + 1)) (tied && eqb b (getD last u 0)) (u + 1) part)) (as-long lawful) in
+      tried-is (settle w last (length rows - (u + 1)) (tied && eqb b (getD last u 0)) (u + 1)) (after-try w u b rows) false (ap any-empty (sym left) ∙ full)
+      ∙ ap (λ (p : List ℕ). counted (settle w last (length rows - (u + 1)) (tied && eqb b (getD last u 0)) (u + 1) p)) (sym left)
+      ∙ ap (λ (k : ℕ). counted (settle w last (k - (u + 1)) (tied && eqb b (getD last u 0)) (u + 1) part)) (as-long lawful) in
       (ap (λ (o : Outcome). o .found) e, (let h : Here .tries ≡ 1 + Deeper .tries = ap (λ (o : Outcome). o .tries) e in omega arith))
 
 -- ---- what the code holds of it

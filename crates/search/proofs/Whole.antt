@@ -2,10 +2,9 @@
 use mathlib.Core.Path.{_≡_, refl, ap, _∙_}
 use mathlib.Core.List.{List, []}
 use mathlib.Core.Bool.{Bool, true, false}
-use Prim.Native.Nat.{ℕ, _<_}
+use Prim.Native.Nat.{ℕ}
 use native.Mathlib.Omega.{arith}
 use lib.ListN.{length, getD}
-use Rattle.std.specs.declared.option.Option.{Option}
 use Rattle.std.specs.declared.option.Option.the-variants.{Some, None}
 use Rattle.std.proofs.shelf.Tests.{both-ways, false≢true, ltb-true}
 use Rattle.graphs.specs.Rows.{bit}
@@ -20,7 +19,6 @@ use Rattle.search.proofs.Scan.{answers-iff}
 use Rattle.search.proofs.Placing.{Wanted, kept, one-empty, Stands, settle-first}
 
 module _ (w : Setting) (last : List ℕ) (tied : Bool) (rows : List ℕ) (lawful : Lawful (w .filter)) (ga : Sound (w .arrangement)) (gr : Sound (w .room)) (sh : Shape (w .arrangement) (w .room) rows) where
-
   back : (i c : ℕ) → bit (getD (filtered w rows) i 0) c ≡ true → bit (getD rows i 0) c ≡ true
   back i c h = lawful .adds-none (w .arrangement) (w .room) (w .strict) rows i c h
 
@@ -44,9 +42,9 @@ module _ (w : Setting) (last : List ℕ) (tied : Bool) (rows : List ℕ) (lawful
   either : (o : Outcome) → (any-empty (filtered w rows) ≡ false → Answers (Wanted w last tied (filtered w rows)) (o .found)) → (t : Bool) → any-empty (filtered w rows) ≡ t
       → Answers (Wanted w last tied rows) ((elim t as (λ _. Outcome) [ true ↦ nothing 0 | false ↦ o ]) .found)
   either o a true z = λ q h.
-    let s = one-empty (filtered w rows) (ltb-true 0 (empty-count (filtered w rows)) z) in
-    let f = there q h .within (s .0) (omega (arith, s .1, long)) in
-    both-ways _ (ap (λ (r : ℕ). bit r (getD q (s .0) 0)) (s .2) ∙ bit-none (getD q (s .0) 0)) f
+      let s = one-empty (filtered w rows) (ltb-true 0 (empty-count (filtered w rows)) z) in
+      let f = there q h .within (s .0) (omega (arith, s .1, long)) in
+      both-ways _ (ap (λ (r : ℕ). bit r (getD q (s .0) 0)) (s .2) ∙ bit-none (getD q (s .0) 0)) f
   either o a false z =
       answers-iff (Wanted w last tied (filtered w rows)) (Wanted w last tied rows) (o .found)
       (λ q h. record { placed = h .placed; within = λ i l. back i (getD q i 0) (h .within i l); after = h .after })

@@ -1,6 +1,6 @@
 -- The walk that a search takes over units and bays, and the tries that it makes. Assumes nothing.
 use mathlib.Core.Path.{_≡_}
-use mathlib.Core.List.{List, [], _∷_, map}
+use mathlib.Core.List.{List, [], map}
 use mathlib.Core.Bool.{Bool, true, false, not, cond, _&&_, _||_}
 use Prim.Native.Nat.{ℕ, zero, suc, _+_, _^_}
 use lib.Bits.{bitAnd}

@@ -1,14 +1,13 @@
 // The search for a placement: units are settled one after another, bays in rising order.
 ghost use mathlib.Core.Path.{_≡_};
 ghost use mathlib.Core.Bool.{Bool, true, false, _&&_};
-ghost use mathlib.Core.List.{List};
 ghost use Prim.Native.Nat.{ℕ, _+_, _-_, _<_, _≤_, min};
 ghost use lib.Dec.{leb};
 ghost use lib.ListN.{length, getD, take};
 ghost use Rattle.std.specs.declared.option.Option.the-variants.{Some, None};
 ghost use Rattle.graphs.specs.Rows.{bit, row-of};
 ghost use Rattle.placements.specs.Agreement.{agrees-if};
-ghost use Rattle.filters.specs.Filter.{shaped, all-below};
+ghost use Rattle.filters.specs.Filter.{shaped};
 ghost use Rattle.search.specs.Masks.{picked};
 ghost use Rattle.search.specs.Walk.{any-empty, narrowed, after-try, offered, chosen, setting, settle, walk, walk-from, LeftBy};
 ghost use Rattle.search.specs.Found.{padded, padded-found, answer-with, answer-of, Sought, SoughtAfter, Searched, Finds-first, Finds-next};
@@ -82,7 +81,15 @@ fn mark(units: u64, v: usize, cut: bool) -> u64
 }
 
 // Into `next` go the rows after unit `u` has taken the bay `b`; the answer is a set of units outside which no row has changed.
-fn narrow<A: Source, R: Source>(arrangement: &A, room: &R, strict: bool, u: usize, b: usize, rows: &[u64], next: &mut [u64]) -> u64
+fn narrow<A: Source, R: Source>(
+    arrangement: &A,
+    room: &R,
+    strict: bool,
+    u: usize,
+    b: usize,
+    rows: &[u64],
+    next: &mut [u64],
+) -> u64
     requires same { ⌜ length (now next) ≡ length (now rows) ⌝ }
     requires few { ⌜ length (now rows) ≤ 24 ⌝ }
     requires unit { ⌜ u < length (now rows) ⌝ }
@@ -104,7 +111,7 @@ fn narrow<A: Source, R: Source>(arrangement: &A, room: &R, strict: bool, u: usiz
     changed
 }
 
-// The bays in order that are tried for a unit with this row; `bound` is the last answer's bay for it.
+// The bays that are tried for a unit with this row; `bound` is the last answer's bay for it.
 fn offers(row: u64, tied: bool, bound: usize, last_unit: bool) -> u64
     requires { ⌜ bound < 256 ⌝ }
     ensures { λ r. ⌜ ((b : ℕ) → bit r b ≡ offered row tied bound «last_unit» b) ⌝ }
@@ -113,7 +120,11 @@ fn offers(row: u64, tied: bool, bound: usize, last_unit: bool) -> u64
         return row;
     }
     let from = if last_unit { bound + 1 } else { bound };
-    if from < 64 { row & !((1 << from) - 1) } else { 0 }
+    if from < 64 {
+        row & !((1 << from) - 1)
+    } else {
+        0
+    }
 }
 
 // The lowest bay of each row, and zeros behind.
@@ -129,7 +140,16 @@ fn lowest_bays(rows: &[u64]) -> [u8; 24]
 }
 
 // One try: into `next` go the rows that it leaves, and the answer says whether one of them is empty.
-fn attempt<A: Source, R: Source, F: Filter>(arrangement: &A, room: &R, strict: bool, filter: &F, u: usize, b: usize, rows: &[u64], next: &mut [u64]) -> bool
+fn attempt<A: Source, R: Source, F: Filter>(
+    arrangement: &A,
+    room: &R,
+    strict: bool,
+    filter: &F,
+    u: usize,
+    b: usize,
+    rows: &[u64],
+    next: &mut [u64],
+) -> bool
     requires same { ⌜ length (now next) ≡ length (now rows) ⌝ }
     requires few { ⌜ length (now rows) ≤ 24 ⌝ }
     requires unit { ⌜ u < length (now rows) ⌝ }
@@ -139,11 +159,22 @@ fn attempt<A: Source, R: Source, F: Filter>(arrangement: &A, room: &R, strict: b
     ensures empty { λ r. ⌜ r ≡ any-empty (now (next .exit)) ⌝ }
 {
     let changed = narrow(arrangement, room, strict, u, b, rows, next);
-    filter.resume(arrangement, room, strict, changed, next).empty > 0
+    let counts = filter.resume(arrangement, room, strict, changed, next);
+    counts.empty > 0
 }
 
 // Settles the units from `u` upward.
-fn settle_from<A: Source, R: Source, F: Filter>(arrangement: &A, room: &R, strict: bool, filter: &F, last: &[u8], tied: bool, u: usize, rows: &[u64], tries: u32) -> Settled
+fn settle_from<A: Source, R: Source, F: Filter>(
+    arrangement: &A,
+    room: &R,
+    strict: bool,
+    filter: &F,
+    last: &[u8],
+    tied: bool,
+    u: usize,
+    rows: &[u64],
+    tries: u32,
+) -> Settled
     requires few { ⌜ length (now rows) ≤ 24 ⌝ }
     requires lasting { ⌜ length (now rows) ≤ length (now last) ⌝ }
     requires left { ⌜ LeftBy (setting (A·Source .graph (now arrangement)) (R·Source .graph (now room)) strict (F·Filter .left (now filter))) (now rows) ⌝ }
@@ -166,7 +197,18 @@ fn settle_from<A: Source, R: Source, F: Filter>(arrangement: &A, room: &R, stric
         so_far = so_far.saturating_add(1);
         let part = &mut next[0..rows.len()];
         if !attempt(arrangement, room, strict, filter, u, b, rows, part) {
-            let deeper = settle_from(arrangement, room, strict, filter, last, tied & (b == bound), u + 1, part, so_far);
+            let same = tied & (b == bound);
+            let deeper = settle_from(
+                arrangement,
+                room,
+                strict,
+                filter,
+                last,
+                same,
+                u + 1,
+                part,
+                so_far,
+            );
             if deeper.found.is_some() {
                 return deeper;
             }
@@ -180,7 +222,15 @@ fn settle_from<A: Source, R: Source, F: Filter>(arrangement: &A, room: &R, stric
 }
 
 // The whole search within the rows, from the start or (tied) after the last answer.
-fn search_rows<A: Source, R: Source, F: Filter>(arrangement: &A, room: &R, strict: bool, filter: &F, last: &[u8], tied: bool, rows: &[u64]) -> Result<Find, SearchError>
+fn search_rows<A: Source, R: Source, F: Filter>(
+    arrangement: &A,
+    room: &R,
+    strict: bool,
+    filter: &F,
+    last: &[u8],
+    tied: bool,
+    rows: &[u64],
+) -> Result<Find, SearchError>
     requires shape { ⌜ shaped (A·Source .graph (now arrangement)) (R·Source .graph (now room)) (now rows) ≡ true ⌝ }
     requires few { ⌜ length (now rows) ≤ 24 ⌝ }
     requires lasting { ⌜ length (now rows) ≤ length (now last) ⌝ }
@@ -205,7 +255,13 @@ fn search_rows<A: Source, R: Source, F: Filter>(arrangement: &A, room: &R, stric
 }
 
 // The first placement within the rows in dictionary order.
-pub fn first<A: Source, R: Source, F: Filter>(arrangement: &A, room: &R, strict: bool, filter: &F, rows: &[u64]) -> Result<Find, SearchError>
+pub fn first<A: Source, R: Source, F: Filter>(
+    arrangement: &A,
+    room: &R,
+    strict: bool,
+    filter: &F,
+    rows: &[u64],
+) -> Result<Find, SearchError>
     ensures answer { λ r. ⌜ r ≡ answer-of (shaped (A·Source .graph (now (arrangement .entry))) (R·Source .graph (now (room .entry))) (now (rows .entry))) (walk (setting (A·Source .graph (now (arrangement .entry))) (R·Source .graph (now (room .entry))) strict (F·Filter .left (now (filter .entry)))) None (now (rows .entry))) ⌝ }
     ensures first { λ r. ⌜ (shaped (A·Source .graph (now (arrangement .entry))) (R·Source .graph (now (room .entry))) (now (rows .entry)) ≡ true → Searched (Sought (A·Source .graph (now (arrangement .entry))) (R·Source .graph (now (room .entry))) strict (now (rows .entry))) (length (now (rows .entry))) (walk (setting (A·Source .graph (now (arrangement .entry))) (R·Source .graph (now (room .entry))) strict (F·Filter .left (now (filter .entry)))) None (now (rows .entry)) .tries) r) ⌝ }
     ensures theorem { λ _. ⌜ Finds-first ⌝ }
@@ -217,7 +273,14 @@ pub fn first<A: Source, R: Source, F: Filter>(arrangement: &A, room: &R, strict:
 }
 
 // The first placement within the rows that comes after the last answer in dictionary order.
-pub fn next_after<A: Source, R: Source, F: Filter>(arrangement: &A, room: &R, strict: bool, filter: &F, rows: &[u64], last: &[u8]) -> Result<Find, SearchError>
+pub fn next_after<A: Source, R: Source, F: Filter>(
+    arrangement: &A,
+    room: &R,
+    strict: bool,
+    filter: &F,
+    rows: &[u64],
+    last: &[u8],
+) -> Result<Find, SearchError>
     ensures answer { λ r. ⌜ r ≡ answer-of (shaped (A·Source .graph (now (arrangement .entry))) (R·Source .graph (now (room .entry))) (now (rows .entry)) && leb (length (now (rows .entry))) (length (now (last .entry)))) (walk (setting (A·Source .graph (now (arrangement .entry))) (R·Source .graph (now (room .entry))) strict (F·Filter .left (now (filter .entry)))) (Some (take (length (now (rows .entry))) (now (last .entry)))) (now (rows .entry))) ⌝ }
     ensures next { λ r. ⌜ ((shaped (A·Source .graph (now (arrangement .entry))) (R·Source .graph (now (room .entry))) (now (rows .entry)) && leb (length (now (rows .entry))) (length (now (last .entry)))) ≡ true → Searched (SoughtAfter (A·Source .graph (now (arrangement .entry))) (R·Source .graph (now (room .entry))) strict (now (rows .entry)) (take (length (now (rows .entry))) (now (last .entry)))) (length (now (rows .entry))) (walk (setting (A·Source .graph (now (arrangement .entry))) (R·Source .graph (now (room .entry))) strict (F·Filter .left (now (filter .entry)))) (Some (take (length (now (rows .entry))) (now (last .entry)))) (now (rows .entry)) .tries) r) ⌝ }
     ensures theorem { λ _. ⌜ Finds-next ⌝ }
@@ -225,5 +288,6 @@ pub fn next_after<A: Source, R: Source, F: Filter>(arrangement: &A, room: &R, st
     if !(well_shaped(arrangement, room, rows) & (rows.len() <= last.len())) {
         return Err(SearchError::IllShaped);
     }
-    search_rows(arrangement, room, strict, filter, &last[0..rows.len()], true, rows)
+    let before = &last[0..rows.len()];
+    search_rows(arrangement, room, strict, filter, before, true, rows)
 }

@@ -1,13 +1,12 @@
-use mathlib.Core.Path.{_≡_, refl, sym, ap, _∙_}
-use mathlib.Core.List.{List}
-use Prim.Native.Nat.{ℕ, _+_, _-_, _<_, _≤_}
+use mathlib.Core.Path.{_≡_, refl, sym, _∙_}
+use Prim.Native.Nat.{ℕ, _-_, _<_}
 use native.Mathlib.Omega.{arith}
 use borrow.Author.Needs.{needs}
 use lib.Count.{trailingZeros}
 use lib.ListN.{length}
 use Rattle.std.proofs.shelf.Lists.{length-take-le}
 use Rattle.search.specs.Walk.{Setting, setting, LeftBy}
-use Rattle.search.proofs.Going.{Settles, going-none, going-start, bay-held, going-fails, going-back, going-there, going-end}
+use Rattle.search.proofs.Going.{going-none, going-start, bay-held, going-fails, going-back, going-there, going-end}
 use Rattle.search.proofs.Narrowing.{left-next}
 use Rattle.search.proofs.Steps.{as-long, rest-falls}
 use Rattle.search.proofs.+settle_from.Needs as need
@@ -36,7 +35,7 @@ attempt-requires g t c κs =
       few = c .pre .few;
       unit = c .if-u-rows .left;
       held = bay-held w (c .args .last .now) (c .args .tied) (c .args .u) (c .args .rows .now) (g .F·Filter·met .lawful (c .args .filter .now)) (g .R·Source .sound (c .args .room .now) .few) (c .pre .left)
-    (c .args .tries) (c .loop-rest .so-far) (c .loop-rest .rest) (c .loop-rest .next) (c .loop-rest .inv) some;
+          (c .args .tries) (c .loop-rest .so-far) (c .loop-rest .rest) (c .loop-rest .next) (c .loop-rest .inv) some;
       left = c .pre .left;
     }
 

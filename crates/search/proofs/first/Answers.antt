@@ -1,20 +1,14 @@
 use mathlib.Core.Path.{_≡_, sym, ap, _∙_}
-use mathlib.Core.Bool.{Bool, true, false, _&&_}
-use mathlib.Core.List.{List, []}
-use Prim.Native.Nat.{ℕ, _-_}
-use native.Mathlib.Omega.{arith}
-use lib.Dec.{leb}
-use lib.ListN.{length, take, replicate}
-use Rattle.std.specs.declared.result.Result.{Result}
-use Rattle.std.proofs.shelf.Tests.{both-ways, and-parts}
+use mathlib.Core.Bool.{true, false}
+use mathlib.Core.List.{[]}
+use lib.ListN.{length, replicate}
+use Rattle.std.proofs.shelf.Tests.{both-ways}
 use Rattle.filters.specs.Filter.{shaped}
 use Rattle.filters.proofs.Shapes.{shape-of}
-use Rattle.search.specs.declared.Find.{Find}
-use Rattle.search.specs.declared.SearchError.{SearchError}
 use Rattle.search.specs.Walk.{Setting, Outcome, setting, walk-from}
-use Rattle.search.specs.Found.{Sought, SoughtAfter, answer-with}
+use Rattle.search.specs.Found.{Sought, answer-with}
 use Rattle.search.proofs.Answered.{accepted, declined, searched, walk-unread}
-use Rattle.search.proofs.Whole.{finds-first, finds-next}
+use Rattle.search.proofs.Whole.{finds-first}
 use Rattle.search.proofs.first.Needs as need
 
 pub returns-then-not-well-shaped : need.returns-then-not-well-shaped
@@ -34,7 +28,7 @@ returns g c =
     let ok : shaped (w .arrangement) (w .room) rows ≡ true = sym (c .well-shaped .ensures) ∙ c .if-not-well-shaped .left in
     let o : Outcome = walk-from w [] false rows in
     let is : c .search-rows .result ≡ answer-with (o .found) (o .tries) =
-      c .search-rows .ensures ∙ ap (λ (x : Outcome). answer-with (x .found) (x .tries)) (walk-unread w (replicate 24 0) [] rows) in
+    c .search-rows .ensures ∙ ap (λ (x : Outcome). answer-with (x .found) (x .tries)) (walk-unread w (replicate 24 0) [] rows) in
     record {
       answer = accepted (shaped (w .arrangement) (w .room) rows) o (c .search-rows .result) ok is;
       first = λ _. searched (Sought (w .arrangement) (w .room) (w .strict) rows) (length rows) o (c .search-rows .result) is

@@ -1,7 +1,4 @@
 use mathlib.Core.Path.{_≡_, sym, ap, _∙_}
-use mathlib.Core.List.{List}
-use Prim.Native.Nat.{ℕ}
-use native.Mathlib.Omega.{arith}
 use lib.ListN.{length}
 use Rattle.filters.proofs.Shapes.{shape-of}
 use Rattle.search.specs.Walk.{Setting, setting, filtered}
