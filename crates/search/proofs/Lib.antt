@@ -9,3 +9,4 @@ pub mod Lowest
 pub mod Steps
 pub mod Going
 pub mod Answered
+pub mod Counted

@@ -19,7 +19,7 @@ use Rattle.placements.specs.Agreement.{agrees}
 use Rattle.placements.specs.Placement.{Placement}
 use Rattle.placements.specs.Order.{Before, Answers}
 use Rattle.filters.specs.Filter.{Lawful, empty-count}
-use Rattle.search.specs.Walk.{Setting, filtered, Outcome, any-empty, narrowed-row, narrowed, after-try, offered, chosen, nothing, counted, settle}
+use Rattle.search.specs.Walk.{Setting, filtered, Outcome, any-empty, narrowed-row, narrowed, after-try, offered, chosen, nothing, counted, tried, settle}
 use Rattle.search.proofs.Agreement.{agrees-flip}
 use Rattle.search.proofs.Narrowing.{narrow-long, narrow-at, narrow-below, narrow-here, narrow-above, narrow-inside, above-holds}
 use Rattle.search.proofs.Scan.{answers-iff, scan-first}
@@ -244,6 +244,10 @@ module _ (w : Setting) (last : List ℕ) (lawful : Lawful (w .filter)) (gu : Sou
         let ts = and-parts tied (eqb b (getD last u 0)) t in
         both-ways _ (offer-open o) (and-from tied _ (ts .0) (or-right (ltb b (getD last u 0)) _ (and-from _ _ (ts .1) (eq-eqb later 0 z))))
 
+    pub next-stands : offered (getD rows u 0) tied (getD last u 0) (eqb later 0) b ≡ true → any-empty (after-try w u b rows) ≡ false
+        → Stands w last (tied && eqb b (getD last u 0)) (suc u) (after-try w u b rows)
+    next-stands o z = sub-stands (offer-held o) (offer-inner o) z
+
     -- the try's outcome, from that of the walk below it
     attempt : offered (getD rows u 0) tied (getD last u 0) (eqb later 0) b ≡ true → (deeper : Outcome) → (any-empty next ≡ false → Answers (Wanted w last tied′ next) (deeper .found)) → (t : Bool) → any-empty next ≡ t
         → Answers (λ q. Wanted w last tied rows q × (getD q u 0 ≡ b)) ((elim t as (λ _. Outcome) [ true ↦ nothing 1 | false ↦ deeper ]) .found)
@@ -257,6 +261,16 @@ module _ (w : Setting) (last : List ℕ) (lawful : Lawful (w .filter)) (gu : Sou
         (λ q h. to-next (offer-held o) q (h .0) (h .1))
         (a z)
 
+  -- what a try comes to, where the walk below finds the first
+  try-with : (tied : Bool) (u later b : ℕ) (rows : List ℕ) → u + suc later ≡ m → Stands w last tied u rows → offered (getD rows u 0) tied (getD last u 0) (eqb later 0) b ≡ true
+      → ((tied′ : Bool) (rows′ : List ℕ) → Stands w last tied′ (suc u) rows′ → Answers (Wanted w last tied′ rows′) (settle w last later tied′ (suc u) rows′ .found))
+      → Answers (λ q. Wanted w last tied rows q × (getD q u 0 ≡ b)) (tried (settle w last later (tied && eqb b (getD last u 0)) (suc u)) (after-try w u b rows) .found)
+  try-with tied u later b rows e st o below =
+      attempt tied u later b rows e st o
+      (counted (settle w last later (tied && eqb b (getD last u 0)) (suc u) (after-try w u b rows)))
+      (λ z. below (tied && eqb b (getD last u 0)) (after-try w u b rows) (next-stands tied u later b rows e st o z))
+      (any-empty (after-try w u b rows)) refl
+
   pub settle-first : (later : ℕ) (tied : Bool) (u : ℕ) (rows : List ℕ) → u + later ≡ m → Stands w last tied u rows → Answers (Wanted w last tied rows) (settle w last later tied u rows .found)
   unfolding settle
   settle-first zero tied u rows e st = leaf tied u rows (omega arith) st
@@ -269,8 +283,9 @@ module _ (w : Setting) (last : List ℕ) (lawful : Lawful (w .filter)) (gu : Sou
         same = λ k lk. st .single k (getD p k 0) (getD q k 0) lk (hp .within k (omega arith)) (hq .within k (omega arith));
         lower = l;
       })
-      (λ b o l. attempt tied u later b rows e st o
-      (counted (settle w last later (tied && eqb b (getD last u 0)) (suc u) (after-try w u b rows)))
-      (λ z. settle-first later (tied && eqb b (getD last u 0)) (suc u) (after-try w u b rows) (omega arith) (sub-stands tied u later b rows e st (offer-held tied u later b rows e st o) (offer-inner tied u later b rows e st o) z))
-      (any-empty (after-try w u b rows)) refl)
+      (λ b o l. try-with tied u later b rows e st o (λ tied′ rows′ s. settle-first later tied′ (suc u) rows′ (omega arith) s))
       (λ b o l. no-offer tied u later b rows e st o)
+
+  pub try-first : (tied : Bool) (u later b : ℕ) (rows : List ℕ) → u + suc later ≡ m → Stands w last tied u rows → offered (getD rows u 0) tied (getD last u 0) (eqb later 0) b ≡ true
+      → Answers (λ q. Wanted w last tied rows q × (getD q u 0 ≡ b)) (tried (settle w last later (tied && eqb b (getD last u 0)) (suc u)) (after-try w u b rows) .found)
+  try-first tied u later b rows e st o = try-with tied u later b rows e st o (λ tied′ rows′ s. settle-first later tied′ (suc u) rows′ (omega arith) s)

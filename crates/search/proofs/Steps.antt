@@ -201,7 +201,7 @@ settle-some w last tied u m rows l =
     ∙ ap (λ (v : ℕ). scan (offered (getD rows u 0) tied (getD last u 0) (eqb (u + 1) m)) (λ b. tried (settle w last (m - (u + 1)) (tied && eqb b (getD last u 0)) v) (after-try w u b rows)) 0 (w .room .count))
     (let z : suc u ≡ u + 1 = omega arith in z)
 
-tried-is : (deeper : List ℕ → Outcome) (next : List ℕ) (t : Bool) → any-empty next ≡ t → tried deeper next ≡ (elim t as (λ _. Outcome) [ true ↦ nothing 1 | false ↦ counted (deeper next) ])
+pub tried-is : (deeper : List ℕ → Outcome) (next : List ℕ) (t : Bool) → any-empty next ≡ t → tried deeper next ≡ (elim t as (λ _. Outcome) [ true ↦ nothing 1 | false ↦ counted (deeper next) ])
 tried-is deeper next t e = ap (λ (x : Bool). elim x as (λ _. Outcome) [ true ↦ nothing 1 | false ↦ counted (deeper next) ]) e
 
 -- ---- one bay of one unit

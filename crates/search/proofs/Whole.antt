@@ -25,7 +25,7 @@ module _ (w : Setting) (last : List ℕ) (tied : Bool) (rows : List ℕ) (lawful
   long : length (filtered w rows) ≡ w .arrangement .count
   long = lawful .as-many (w .arrangement) (w .room) (w .strict) rows ∙ sh .many
 
-  stands : any-empty (filtered w rows) ≡ false → Stands w last tied 0 (filtered w rows)
+  pub stands : any-empty (filtered w rows) ≡ false → Stands w last tied 0 (filtered w rows)
   stands full = record {
     long = long;
     low = λ i c h. sh .under i c (back i c h);
