@@ -1,21 +1,21 @@
 -- The tries of a walk are the beginnings that it reaches. Assumes nothing.
 use mathlib.Core.Path.{_≡_, refl, sym, ap, ap₂, subst, _∙_}
-use mathlib.Core.Logic.{_⊎_, inl, inr}
+use mathlib.Core.Logic.{inl, inr}
 use mathlib.Core.List.{List, [], _∷_}
 use mathlib.Core.Bool.{Bool, true, false, not, cond, _&&_, _||_}
-use Prim.Native.Nat.{ℕ, zero, suc, _+_, _-_, _<_, _≤_}
+use Prim.Native.Nat.{ℕ, zero, suc, _+_, _<_, _≤_}
 use native.Mathlib.Omega.{arith}
-use lib.Dec.{eqb, ltb}
+use lib.Dec.{eqb}
 use lib.ListN.{length, getD, drop}
 use lib.Seq.{drop-cons}
 use Rattle.std.specs.declared.option.Option.{Option}
 use Rattle.std.specs.declared.option.Option.the-variants.{Some, None}
-use Rattle.std.proofs.shelf.Tests.{eq-eqb, ne-eqb, lt-ltb, le-ltb, cases-lt, both-ways}
+use Rattle.std.proofs.shelf.Tests.{eq-eqb, ne-eqb, lt-ltb, le-ltb, cases-lt}
 use Rattle.std.proofs.shelf.Lists.{getD-past, drop-all}
 use Rattle.std.proofs.shelf.Ways.{tells}
 use Rattle.graphs.specs.Graph.{Sound}
 use Rattle.placements.specs.Order.{Answers}
-use Rattle.filters.specs.Filter.{Lawful, shaped}
+use Rattle.filters.specs.Filter.{Lawful}
 use Rattle.filters.proofs.Shapes.{shape-of}
 use Rattle.search.specs.Walk.{Setting, filtered, Outcome, any-empty, after-try, offered, nothing, counted, or-else, scan, tried, settle, walk-from}
 use Rattle.search.specs.Tries.{sum-of, list-count, reached, not-past, up-to, Counts-tries}
@@ -58,12 +58,11 @@ at-none k n p b h = at-same k n p (λ r. false) b h ∙ ap (λ (m : ℕ). 0 + m)
 -- ---- a scan
 
 module _ (n : ℕ) (offer : ℕ → Bool) (here : ℕ → Outcome) (key : List ℕ → ℕ) (count : Option (List ℕ) → ℕ → ℕ)
-         (keyed : (b : ℕ) → offer b ≡ true → (q : List ℕ) → here b .found ≡ Some q → key q ≡ b)
-         (passed : (b : ℕ) (f : Option (List ℕ)) → offer b ≡ false → count f b ≡ 0)
-         (failed : (b : ℕ) (f : Option (List ℕ)) → offer b ≡ true → here b .found ≡ None → ((q : List ℕ) → f ≡ Some q → b < key q) → count f b ≡ here b .tries)
-         (there : (b : ℕ) (q : List ℕ) → offer b ≡ true → here b .found ≡ Some q → count (Some q) b ≡ here b .tries)
-         (after : (b : ℕ) (q : List ℕ) → key q < b → count (Some q) b ≡ 0) where
-
+    (keyed : (b : ℕ) → offer b ≡ true → (q : List ℕ) → here b .found ≡ Some q → key q ≡ b)
+    (passed : (b : ℕ) (f : Option (List ℕ)) → offer b ≡ false → count f b ≡ 0)
+    (failed : (b : ℕ) (f : Option (List ℕ)) → offer b ≡ true → here b .found ≡ None → ((q : List ℕ) → f ≡ Some q → b < key q) → count f b ≡ here b .tries)
+    (there : (b : ℕ) (q : List ℕ) → offer b ≡ true → here b .found ≡ Some q → count (Some q) b ≡ here b .tries)
+    (after : (b : ℕ) (q : List ℕ) → key q < b → count (Some q) b ≡ 0) where
   record Counts (b left : ℕ) (o : Outcome) : Type 0 where
     tries : o .tries ≡ sum-of b left (count (o .found))
     from : (q : List ℕ) → o .found ≡ Some q → b ≤ key q
@@ -147,7 +146,6 @@ and-false false = refl
 -- ---- the walk
 
 module _ (w : Setting) (last : List ℕ) (lawful : Lawful (w .filter)) (ga : Sound (w .arrangement)) (gr : Sound (w .room)) where
-
   abbrev m : ℕ
   m = w .arrangement .count
 
@@ -158,7 +156,6 @@ module _ (w : Setting) (last : List ℕ) (lawful : Lawful (w .filter)) (ga : Sou
   Reached u tied rows f p = reached w last tied u rows p && up-to (tail-of u f) p
 
   module _ (tied : Bool) (u later b : ℕ) (rows : List ℕ) (e : u + suc later ≡ m) (st : Stands w last tied u rows) where
-
     abbrev next : List ℕ
     next = after-try w u b rows
 
@@ -188,7 +185,6 @@ module _ (w : Setting) (last : List ℕ) (lawful : Lawful (w .filter)) (ga : Sou
         (λ r. ap (λ (s : Bool). reached w last tied u rows (b ∷ r) && s) (up-more u b q r l) ∙ and-false (reached w last tied u rows (b ∷ r)))
 
     module _ (o : Offered ≡ true) (below : any-empty next ≡ false → Below .tries ≡ list-count later n (Reached (suc u) tied′ next (Below .found))) where
-
       bay-failed : (f : Option (List ℕ)) → Here .found ≡ None → ((q : List ℕ) → f ≡ Some q → b < getD q u 0) → at-bay later n (Reached u tied rows f) b ≡ Here .tries
       bay-failed f none h = all ∙ go (any-empty next) refl
         where
@@ -238,9 +234,9 @@ module _ (w : Setting) (last : List ℕ) (lawful : Lawful (w .filter)) (ga : Sou
   settle-tries zero tied u rows e st = refl
   settle-tries (suc later) tied u rows e st =
       let below : (b : ℕ) → offered (getD rows u 0) tied (getD last u 0) (eqb later 0) b ≡ true → any-empty (after-try w u b rows) ≡ false
-            → settle w last later (tied && eqb b (getD last u 0)) (suc u) (after-try w u b rows) .tries
-              ≡ list-count later n (Reached (suc u) (tied && eqb b (getD last u 0)) (after-try w u b rows) (settle w last later (tied && eqb b (getD last u 0)) (suc u) (after-try w u b rows) .found)) =
-        λ b o z. settle-tries later (tied && eqb b (getD last u 0)) (suc u) (after-try w u b rows) (omega arith) (next-stands w last lawful ga gr tied u later b rows e st o z) in
+      → settle w last later (tied && eqb b (getD last u 0)) (suc u) (after-try w u b rows) .tries
+      ≡ list-count later n (Reached (suc u) (tied && eqb b (getD last u 0)) (after-try w u b rows) (settle w last later (tied && eqb b (getD last u 0)) (suc u) (after-try w u b rows) .found)) =
+      λ b o z. settle-tries later (tied && eqb b (getD last u 0)) (suc u) (after-try w u b rows) (omega arith) (next-stands w last lawful ga gr tied u later b rows e st o z) in
       scan-tries n (offered (getD rows u 0) tied (getD last u 0) (eqb later 0))
       (λ b. tried (settle w last later (tied && eqb b (getD last u 0)) (suc u)) (after-try w u b rows))
       (λ q. getD q u 0)
@@ -258,8 +254,8 @@ counts-tries w last tied rows lawful ga gr sh = go (any-empty (filtered w rows))
   where
     go : (t : Bool) → any-empty (filtered w rows) ≡ t
         → _≡_ {A = ℕ} ((elim t as (λ _. Outcome) [ true ↦ nothing 0 | false ↦ settle w last (w .arrangement .count) tied 0 (filtered w rows) ]) .tries)
-          (list-count (w .arrangement .count) (w .room .count) (λ p. reached w last tied 0 (filtered w rows) p
-            && up-to ((elim t as (λ _. Outcome) [ true ↦ nothing 0 | false ↦ settle w last (w .arrangement .count) tied 0 (filtered w rows) ]) .found) p))
+        (list-count (w .arrangement .count) (w .room .count) (λ p. reached w last tied 0 (filtered w rows) p
+        && up-to ((elim t as (λ _. Outcome) [ true ↦ nothing 0 | false ↦ settle w last (w .arrangement .count) tied 0 (filtered w rows) ]) .found) p))
     go true z =
         sym (list-none (w .arrangement .count) (w .room .count) (λ p. reached w last tied 0 (filtered w rows) p && true)
         (λ b r. ap (λ (s : Bool). (not s && (offered (getD (filtered w rows) 0 0) tied (getD last 0 0) (eqb 1 (w .arrangement .count)) b && reached w last (tied && eqb b (getD last 0 0)) 1 (after-try w 0 b (filtered w rows)) r)) && true) z))

@@ -11,6 +11,7 @@ ghost use Rattle.filters.specs.Filter.{shaped};
 ghost use Rattle.search.specs.Masks.{picked};
 ghost use Rattle.search.specs.Walk.{any-empty, narrowed, after-try, offered, chosen, setting, settle, walk, walk-from, LeftBy};
 ghost use Rattle.search.specs.Found.{padded, padded-found, answer-with, answer-of, Sought, SoughtAfter, Searched, Finds-first, Finds-next};
+ghost use Rattle.search.specs.Tries.{Counts-tries};
 use filters::Filter;
 use filters::well_shaped;
 use graphs::Source;
@@ -265,6 +266,7 @@ pub fn first<A: Source, R: Source, F: Filter>(
     ensures answer { λ r. ⌜ r ≡ answer-of (shaped (A·Source .graph (now (arrangement .entry))) (R·Source .graph (now (room .entry))) (now (rows .entry))) (walk (setting (A·Source .graph (now (arrangement .entry))) (R·Source .graph (now (room .entry))) strict (F·Filter .left (now (filter .entry)))) None (now (rows .entry))) ⌝ }
     ensures first { λ r. ⌜ (shaped (A·Source .graph (now (arrangement .entry))) (R·Source .graph (now (room .entry))) (now (rows .entry)) ≡ true → Searched (Sought (A·Source .graph (now (arrangement .entry))) (R·Source .graph (now (room .entry))) strict (now (rows .entry))) (length (now (rows .entry))) (walk (setting (A·Source .graph (now (arrangement .entry))) (R·Source .graph (now (room .entry))) strict (F·Filter .left (now (filter .entry)))) None (now (rows .entry)) .tries) r) ⌝ }
     ensures theorem { λ _. ⌜ Finds-first ⌝ }
+    ensures counted { λ _. ⌜ Counts-tries ⌝ }
 {
     if !well_shaped(arrangement, room, rows) {
         return Err(SearchError::IllShaped);
@@ -284,6 +286,7 @@ pub fn next_after<A: Source, R: Source, F: Filter>(
     ensures answer { λ r. ⌜ r ≡ answer-of (shaped (A·Source .graph (now (arrangement .entry))) (R·Source .graph (now (room .entry))) (now (rows .entry)) && leb (length (now (rows .entry))) (length (now (last .entry)))) (walk (setting (A·Source .graph (now (arrangement .entry))) (R·Source .graph (now (room .entry))) strict (F·Filter .left (now (filter .entry)))) (Some (take (length (now (rows .entry))) (now (last .entry)))) (now (rows .entry))) ⌝ }
     ensures next { λ r. ⌜ ((shaped (A·Source .graph (now (arrangement .entry))) (R·Source .graph (now (room .entry))) (now (rows .entry)) && leb (length (now (rows .entry))) (length (now (last .entry)))) ≡ true → Searched (SoughtAfter (A·Source .graph (now (arrangement .entry))) (R·Source .graph (now (room .entry))) strict (now (rows .entry)) (take (length (now (rows .entry))) (now (last .entry)))) (length (now (rows .entry))) (walk (setting (A·Source .graph (now (arrangement .entry))) (R·Source .graph (now (room .entry))) strict (F·Filter .left (now (filter .entry)))) (Some (take (length (now (rows .entry))) (now (last .entry)))) (now (rows .entry)) .tries) r) ⌝ }
     ensures theorem { λ _. ⌜ Finds-next ⌝ }
+    ensures counted { λ _. ⌜ Counts-tries ⌝ }
 {
     if !(well_shaped(arrangement, room, rows) & (rows.len() <= last.len())) {
         return Err(SearchError::IllShaped);

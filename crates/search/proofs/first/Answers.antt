@@ -8,6 +8,7 @@ use Rattle.filters.proofs.Shapes.{shape-of}
 use Rattle.search.specs.Walk.{Setting, Outcome, setting, walk-from}
 use Rattle.search.specs.Found.{Sought, answer-with}
 use Rattle.search.proofs.Answered.{accepted, declined, searched, walk-unread}
+use Rattle.search.proofs.Counted.{counts-tries}
 use Rattle.search.proofs.Whole.{finds-first}
 use Rattle.search.proofs.first.Needs as need
 
@@ -19,6 +20,7 @@ returns-then-not-well-shaped g c =
       answer = declined (shaped (w .arrangement) (w .room) (c .args .rows .now)) (walk-from w [] false (c .args .rows .now)) ill;
       first = λ ok. both-ways _ ill ok;
       theorem = finds-first;
+      counted = counts-tries;
     }
 
 pub returns : need.returns
@@ -35,4 +37,5 @@ returns g c =
           (λ q h. h .0 .whole ∙ sym (shape-of (w .arrangement) (w .room) rows ok .many))
           (finds-first w rows (g .F·Filter·met .lawful (c .args .filter .now)) (g .A·Source .sound (c .args .arrangement .now)) (g .R·Source .sound (c .args .room .now)) ok);
       theorem = finds-first;
+      counted = counts-tries;
     }

@@ -11,6 +11,7 @@ use Rattle.filters.proofs.Shapes.{shape-of}
 use Rattle.search.specs.Walk.{Setting, Outcome, setting, walk-from}
 use Rattle.search.specs.Found.{SoughtAfter, answer-with}
 use Rattle.search.proofs.Answered.{accepted, declined, searched}
+use Rattle.search.proofs.Counted.{counts-tries}
 use Rattle.search.proofs.Whole.{finds-next}
 use Rattle.search.proofs.next_after.Needs as need
 
@@ -25,6 +26,7 @@ returns-then-not-well-shaped-rows g c =
       answer = declined (shaped (w .arrangement) (w .room) rows && leb (length rows) (length last)) (walk-from w (take (length rows) last) true rows) ill;
       next = λ ok. both-ways _ ill ok;
       theorem = finds-next;
+      counted = counts-tries;
     }
 
 pub returns : need.returns
@@ -45,4 +47,5 @@ returns g c =
           (λ q h. h .0 .whole ∙ sym (shape-of (w .arrangement) (w .room) rows sh .many))
           (finds-next w rows before (g .F·Filter·met .lawful (c .args .filter .now)) (g .A·Source .sound (c .args .arrangement .now)) (g .R·Source .sound (c .args .room .now)) sh);
       theorem = finds-next;
+      counted = counts-tries;
     }
