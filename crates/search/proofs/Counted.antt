@@ -19,6 +19,7 @@ use Rattle.filters.specs.Filter.{Lawful}
 use Rattle.filters.proofs.Shapes.{shape-of}
 use Rattle.search.specs.Walk.{Setting, filtered, Outcome, any-empty, after-try, offered, nothing, counted, or-else, scan, tried, settle, walk-from}
 use Rattle.search.specs.Tries.{sum-of, list-count, reached, not-past, up-to, Counts-tries}
+use Rattle.search.proofs.Bools.{and-true, and-false}
 use Rattle.search.proofs.Placing.{Stands, Wanted, next-stands, try-first}
 use Rattle.search.proofs.Steps.{tried-is}
 use Rattle.search.proofs.Whole.{stands}
@@ -134,14 +135,6 @@ up-more u b q r more =
 
 up-same : (u b : ℕ) (q r : List ℕ) → u < length q → getD q u 0 ≡ b → not-past (b ∷ r) (drop u q) ≡ not-past r (drop (suc u) q)
 up-same u b q r l e = ap (not-past (b ∷ r)) (drop-cons q u 0 l ∙ ap (λ (c : ℕ). c ∷ drop (suc u) q) e) ∙ past-same b r (drop (suc u) q)
-
-and-true : (t : Bool) → (t && true) ≡ t
-and-true true = refl
-and-true false = refl
-
-and-false : (t : Bool) → (t && false) ≡ false
-and-false true = refl
-and-false false = refl
 
 -- ---- the walk
 

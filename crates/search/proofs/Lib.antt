@@ -1,3 +1,4 @@
+pub mod Bools
 pub mod Agreement
 pub mod Scan
 pub mod Narrowing

@@ -12,14 +12,7 @@ use Rattle.std.proofs.shelf.Tests.{ne-eqb, and-left}
 use Rattle.std.proofs.shelf.Ways.{tells}
 use Rattle.graphs.specs.Rows.{bit}
 use Rattle.graphs.proofs.Bits.{digit-cases, bit-zero, bit-suc, bit-and}
-
-and-true : (t : Bool) → (t && true) ≡ t
-and-true true = refl
-and-true false = refl
-
-and-twice : (t : Bool) → (t && t) ≡ t
-and-twice true = refl
-and-twice false = refl
+use Rattle.search.proofs.Bools.{and-true, and-twice}
 
 -- no bay is below the lowest
 pub below-lowest : (k x c : ℕ) → c < trailingZeros k x → bit x c ≡ false

@@ -21,6 +21,7 @@ use Rattle.graphs.proofs.Bits.{bit-none, bit-lowest}
 use Rattle.filters.specs.Filter.{Lawful}
 use Rattle.search.specs.Walk.{Setting, Outcome, any-empty, narrowed, after-try, offered, nothing, counted, or-else, scan, tried, settle, chosen}
 use Rattle.search.specs.Found.{padded-found}
+use Rattle.search.proofs.Bools.{and-true}
 use Rattle.search.proofs.Lowest.{below-lowest, lowest-off}
 use Rattle.search.proofs.Narrowing.{narrow-long}
 
@@ -141,10 +142,6 @@ module _ (total : Outcome) (offer : ℕ → Bool) (here : ℕ → Outcome) (n t�
           | inr l ↦ off c l ∙ sym (ap (λ (x : Bool). x && offer c) (lt-leb (lowest + 1) c (omega arith)))
         ]
       where
-        and-true : (x : Bool) → (x && true) ≡ x
-        and-true true = refl
-        and-true false = refl
-
         off : (c : ℕ) → c ≤ lowest → (bit rest c && not (eqb c lowest)) ≡ false
         off c l = elim (cases-eq c lowest) [
           | inl z ↦ and-right (bit rest c) (not (eqb c lowest)) (ap not (eq-eqb c lowest z))

@@ -120,7 +120,7 @@ fn offers(row: u64, tied: bool, bound: usize, last_unit: bool) -> u64
     if !tied {
         return row;
     }
-    let from = if last_unit { bound + 1 } else { bound };
+    let from = bound + last_unit as usize;
     if from < 64 {
         row & !((1 << from) - 1)
     } else {
