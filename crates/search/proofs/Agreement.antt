@@ -8,12 +8,7 @@ use Rattle.std.proofs.shelf.Ways.{tells}
 use Rattle.graphs.specs.Rows.{row-of}
 use Rattle.graphs.specs.Graph.{Graph}
 use Rattle.placements.specs.Agreement.{half, agrees-if}
-
-and-swap : (x y : Bool) → (x && y) ≡ (y && x)
-and-swap true true = refl
-and-swap true false = refl
-and-swap false true = refl
-and-swap false false = refl
+use Rattle.search.proofs.Bools.{and-swap}
 
 pub agrees-flip : (r : Graph) (out back s : Bool) (b c : ℕ) → agrees-if r out back s b c ≡ agrees-if r back out s c b
 agrees-flip r out back s b c =

@@ -1,4 +1,13 @@
+pub mod Bools
 pub mod Agreement
 pub mod Scan
-pub mod First
+pub mod Narrowing
+pub mod Placing
 pub mod Whole
+pub mod OfferedRow
+pub mod LowestBays
+pub mod Lowest
+pub mod Steps
+pub mod Going
+pub mod Answered
+pub mod Counted

@@ -1,6 +1,6 @@
 -- The first of the lists found by a scan over the bays of one unit. Assumes nothing.
 use mathlib.Core.Path.{_≡_, refl}
-use mathlib.Core.Logic.{_⊎_, inl, inr}
+use mathlib.Core.Logic.{inl, inr}
 use mathlib.Core.List.{List}
 use mathlib.Core.Bool.{Bool, true, false}
 use Prim.Native.Nat.{ℕ, zero, suc, _+_, _<_, _≤_}
@@ -18,11 +18,10 @@ answers-iff P Q None f g a = λ q h. a q (g q h)
 
 -- the bays of one unit in rising order; key gives the unit's bay in a list
 module _ (n : ℕ) (W : List ℕ → Type 0) (key : List ℕ → ℕ) (offer : ℕ → Bool) (here : ℕ → Outcome)
-         (bound : (q : List ℕ) → W q → key q < n)
-         (order : (p q : List ℕ) → W p → W q → key p < key q → Before p q)
-         (taken : (b : ℕ) → offer b ≡ true → b < n → Answers (λ q. W q × (key q ≡ b)) (here b .found))
-         (passed : (b : ℕ) → offer b ≡ false → b < n → (q : List ℕ) → W q → key q ≡ b → ⊥) where
-
+    (bound : (q : List ℕ) → W q → key q < n)
+    (order : (p q : List ℕ) → W p → W q → key p < key q → Before p q)
+    (taken : (b : ℕ) → offer b ≡ true → b < n → Answers (λ q. W q × (key q ≡ b)) (here b .found))
+    (passed : (b : ℕ) → offer b ≡ false → b < n → (q : List ℕ) → W q → key q ≡ b → ⊥) where
   abbrev From : ℕ → List ℕ → Type 0
   From b q = W q × (b ≤ key q)
 
@@ -39,8 +38,9 @@ module _ (n : ℕ) (W : List ℕ → Type 0) (key : List ℕ → ℕ) (offer : �
       record {
         holds = (a .holds .0, omega (arith, a .holds .1));
         least = λ q h. elim (cases-eq (key q) b) [
-            inl e ↦ a .least q (h .0, e)
-          | inr ne ↦ inr (order p q (a .holds .0) (h .0) (omega (arith, a .holds .1, h .1))) ];
+          | inl e ↦ a .least q (h .0, e)
+          | inr ne ↦ inr (order p q (a .holds .0) (h .0) (omega (arith, a .holds .1, h .1)))
+        ];
       }
   joined-to b None k rest a r = onward b (rest .found) (λ q h e. a q (h, e)) r
 

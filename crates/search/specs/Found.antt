@@ -12,7 +12,7 @@ use Rattle.graphs.specs.Rows.{pairs}
 use Rattle.graphs.specs.Graph.{Graph, Sound}
 use Rattle.placements.specs.Placement.{Placement, Within}
 use Rattle.placements.specs.Order.{Before, IsFirst, Answers}
-use Rattle.filters.specs.Filter.{Meaning, Lawful, shaped}
+use Rattle.filters.specs.Filter.{Lawful, shaped}
 use Rattle.search.specs.declared.Find.{Find}
 use Rattle.search.specs.declared.SearchError.{SearchError}
 use Rattle.search.specs.declared.SearchError.the-variants.{IllShaped, NoPlacement}

@@ -1,6 +1,6 @@
 -- The walk that a search takes over units and bays, and the tries that it makes. Assumes nothing.
 use mathlib.Core.Path.{_≡_}
-use mathlib.Core.List.{List, [], _∷_, map}
+use mathlib.Core.List.{List, [], map}
 use mathlib.Core.Bool.{Bool, true, false, not, cond, _&&_, _||_}
 use Prim.Native.Nat.{ℕ, zero, suc, _+_, _^_}
 use lib.Bits.{bitAnd}
@@ -8,7 +8,6 @@ use lib.Count.{trailingZeros}
 use lib.Dec.{eqb, ltb}
 use lib.ListN.{length, getD}
 use Rattle.std.specs.Iters.{counting}
-use Rattle.std.specs.Options.{isSome}
 use Rattle.std.specs.declared.option.Option.{Option}
 use Rattle.std.specs.declared.option.Option.the-variants.{Some, None}
 use Rattle.graphs.specs.Rows.{bit, row-of}
@@ -91,17 +90,17 @@ settle w last (suc later) tied u rows =
     (λ b. tried (settle w last later (tied && eqb b (getD last u 0)) (suc u)) (after-try w u b rows))
     0 (w .room .count)
 
--- the bays of the last answer, where there is one
-abbrev pub bays-of : Option (List ℕ) → List ℕ
-bays-of (Some last) = last
-bays-of None = []
-
--- The whole search within the rows, from the start or after a last answer: the filter is applied first.
-unfoldable pub walk : Setting → Option (List ℕ) → List ℕ → Outcome
-walk w last rows =
+-- The whole search within the rows: the filter is applied first. Tied: the walk goes on after the last answer.
+unfoldable pub walk-from : Setting → List ℕ → Bool → List ℕ → Outcome
+walk-from w last tied rows =
     let start = filtered w rows in
-    let o = settle w (bays-of last) (w .arrangement .count) (isSome last) 0 start in
+    let o = settle w last (w .arrangement .count) tied 0 start in
     elim (any-empty start) [ true ↦ nothing 0 | false ↦ o ]
+
+-- the same from the start, or after a last answer
+abbrev pub walk : Setting → Option (List ℕ) → List ℕ → Outcome
+walk w (Some last) rows = walk-from w last true rows
+walk w None rows = walk-from w [] false rows
 
 -- the rows are what the filter leaves of some rows of the right shape
 pub record LeftBy (w : Setting) (rows : List ℕ) : Type 0 where

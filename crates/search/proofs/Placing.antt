@@ -1,29 +1,27 @@
 -- The walk finds the first placement in dictionary order. Assumes nothing.
 use mathlib.Core.Path.{_≡_, refl, sym, ap, subst, subst₂, _∙_}
-use mathlib.Core.Logic.{_⊎_, inl, inr}
-use mathlib.Core.List.{List, [], _∷_, map}
-use mathlib.Core.Bool.{Bool, true, false, not, cond, _&&_, _||_}
+use mathlib.Core.Logic.{inl, inr}
+use mathlib.Core.List.{List, [], _∷_}
+use mathlib.Core.Bool.{Bool, true, false, cond, _&&_, _||_}
 use Prim.Native.Nat.{ℕ, zero, suc, _+_, _^_, _<_, _≤_}
 use native.Mathlib.Omega.{arith}
-use lib.Bits.{bitAnd}
 use lib.Count.{trailingZeros}
 use lib.Dec.{eqb, ltb}
 use lib.ListN.{length, getD, length-map}
-use Rattle.std.specs.declared.option.Option.{Option}
-use Rattle.std.specs.declared.option.Option.the-variants.{Some, None}
-use Rattle.std.proofs.shelf.Lists.{ext-getD, getD-past, getD-map}
-use Rattle.std.proofs.shelf.Counted.{length-map-counting, getD-map-counting}
-use Rattle.std.proofs.shelf.Tests.{eqb-true, eqb-false, eq-eqb, ne-eqb, ltb-true, ltb-false, cases-lt, cases-eq, cases-order, cases-bool, both-ways, and-parts, and-cases, or-cases, or-left, or-right, and-from, not-true, not-false, le-ltb, lt-ltb, cond-true, cond-false}
+use Rattle.std.specs.declared.option.Option.the-variants.{Some}
+use Rattle.std.proofs.shelf.Lists.{ext-getD, getD-map}
+use Rattle.std.proofs.shelf.Tests.{eqb-true, eqb-false, eq-eqb, ltb-true, ltb-false, cases-lt, cases-eq, cases-order, cases-bool, both-ways, and-parts, and-cases, or-cases, or-left, or-right, and-from, not-true, not-false, lt-ltb}
 use Rattle.graphs.specs.Rows.{bit, row-of}
-use Rattle.graphs.specs.Graph.{Graph, Sound}
+use Rattle.graphs.specs.Graph.{Sound}
 use Rattle.graphs.proofs.Bits.{bit-and, bit-bit, bit-bit-only, bit-none, bit-lowest-among}
 use Rattle.graphs.proofs.Rows.{bit-row-of}
 use Rattle.placements.specs.Agreement.{agrees}
 use Rattle.placements.specs.Placement.{Placement}
 use Rattle.placements.specs.Order.{Before, Answers}
 use Rattle.filters.specs.Filter.{Lawful, empty-count}
-use Rattle.search.specs.Walk.{Setting, filtered, Outcome, any-empty, narrowed-row, narrowed, after-try, offered, chosen, nothing, counted, scan, settle}
+use Rattle.search.specs.Walk.{Setting, filtered, Outcome, any-empty, narrowed-row, narrowed, after-try, offered, chosen, nothing, counted, tried, settle}
 use Rattle.search.proofs.Agreement.{agrees-flip}
+use Rattle.search.proofs.Narrowing.{narrow-long, narrow-at, narrow-below, narrow-here, narrow-above, narrow-inside, above-holds}
 use Rattle.search.proofs.Scan.{answers-iff, scan-first}
 
 -- ---- rows
@@ -73,7 +71,6 @@ kept w lawful ga gr rows q placed within u l =
     lawful .keeps (w .arrangement) (w .room) (w .strict) rows q ga gr placed (λ i li. within i (omega arith)) u (omega arith)
 
 module _ (w : Setting) (last : List ℕ) (lawful : Lawful (w .filter)) (gu : Sound (w .arrangement)) (gb : Sound (w .room)) where
-
   abbrev m : ℕ
   m = w .arrangement .count
 
@@ -93,10 +90,12 @@ module _ (w : Setting) (last : List ℕ) (lawful : Lawful (w .filter)) (gu : Sou
             whole = length-map rows (trailingZeros 64) ∙ st .long;
             on-bays = λ i l. st .low i (at i) (isin i l);
             agree = λ i j li lj ne. elim (cases-order i j) [
-                inl same ↦ absurd (ne same)
+              | inl same ↦ absurd (ne same)
               | inr o ↦ elim o [
-                  inl less ↦ st .settled i j (at i) (at j) (omega arith) less lj (isin i li) (isin j lj)
-                | inr more ↦ agrees-flip (w .room) (w .arrangement .joined i j) (w .arrangement .joined j i) (w .strict) (at i) (at j) ∙ st .settled j i (at j) (at i) (omega arith) more li (isin j lj) (isin i li) ] ];
+                | inl less ↦ st .settled i j (at i) (at j) (omega arith) less lj (isin i li) (isin j lj)
+                | inr more ↦ agrees-flip (w .room) (w .arrangement .joined i j) (w .arrangement .joined j i) (w .strict) (at i) (at j) ∙ st .settled j i (at j) (at i) (omega arith) more li (isin j lj) (isin i li)
+              ]
+            ];
           };
           within = isin;
           after = λ t. absurd (let l = st .apart t in omega arith);
@@ -108,7 +107,6 @@ module _ (w : Setting) (last : List ℕ) (lawful : Lawful (w .filter)) (gu : Sou
   -- ---- one try: unit u takes the bay b
 
   module _ (tied : Bool) (u later b : ℕ) (rows : List ℕ) (e : u + suc later ≡ m) (st : Stands w last tied u rows) where
-
     abbrev next : List ℕ
     next = after-try w u b rows
 
@@ -116,93 +114,66 @@ module _ (w : Setting) (last : List ℕ) (lawful : Lawful (w .filter)) (gu : Sou
     tied′ = tied && eqb b (getD last u 0)
 
     next-long : length next ≡ m
-    next-long = lawful .as-many (w .arrangement) (w .room) (w .strict) (narrowed (w .arrangement) (w .room) (w .strict) u b rows) ∙ length-map-counting (narrowed-row (w .arrangement) (w .room) (w .strict) u b rows) 0 (length rows) ∙ st .long
-
-    narrow-at : (i : ℕ) → i < m → getD (narrowed (w .arrangement) (w .room) (w .strict) u b rows) i 0 ≡ narrowed-row (w .arrangement) (w .room) (w .strict) u b rows i
-    narrow-at i l = getD-map-counting (narrowed-row (w .arrangement) (w .room) (w .strict) u b rows) 0 (length rows) i i 0 (omega (arith, st .long)) (omega arith)
-
-    narrow-below : (i : ℕ) → i < u → narrowed-row (w .arrangement) (w .room) (w .strict) u b rows i ≡ getD rows i 0
-    narrow-below i l = cond-true (ltb i u) _ _ (lt-ltb i u l)
-
-    narrow-here : narrowed-row (w .arrangement) (w .room) (w .strict) u b rows u ≡ 2 ^ b
-    narrow-here = cond-false (ltb u u) _ _ (le-ltb u u (omega arith)) ∙ cond-true (eqb u u) _ _ (eq-eqb u u refl)
-
-    agreeing : ℕ → ℕ
-    agreeing i = row-of (w .room .count) (λ c. agrees (w .arrangement) (w .room) (w .strict) u b i c)
-
-    narrow-above : (i : ℕ) → u < i → narrowed-row (w .arrangement) (w .room) (w .strict) u b rows i ≡ bitAnd (getD rows i 0) (agreeing i)
-    unfolding agreeing
-    narrow-above i l = cond-false (ltb i u) _ _ (le-ltb i u (omega arith)) ∙ cond-false (eqb i u) _ _ (ne-eqb i u (λ x. omega arith))
-
-    has-agreeing : (i c : ℕ) → bit (agreeing i) c ≡ (ltb c (w .room .count) && agrees (w .arrangement) (w .room) (w .strict) u b i c)
-    unfolding agreeing
-    has-agreeing i c = bit-row-of (w .room .count) (λ x. agrees (w .arrangement) (w .room) (w .strict) u b i x) c
+    next-long = lawful .as-many (w .arrangement) (w .room) (w .strict) (narrowed (w .arrangement) (w .room) (w .strict) u b rows) ∙ narrow-long (w .arrangement) (w .room) (w .strict) u b rows ∙ st .long
 
     next-in : (i c : ℕ) → i < m → bit (getD next i 0) c ≡ true → bit (narrowed-row (w .arrangement) (w .room) (w .strict) u b rows i) c ≡ true
-    next-in i c l h = ap (λ (r : ℕ). bit r c) (sym (narrow-at i l)) ∙ lawful .adds-none (w .arrangement) (w .room) (w .strict) (narrowed (w .arrangement) (w .room) (w .strict) u b rows) i c h
+    next-in i c l h = ap (λ (r : ℕ). bit r c) (sym (narrow-at (w .arrangement) (w .room) (w .strict) u b rows i (let e = st .long in omega arith))) ∙ lawful .adds-none (w .arrangement) (w .room) (w .strict) (narrowed (w .arrangement) (w .room) (w .strict) u b rows) i c h
 
     next-here : (c : ℕ) → bit (getD next u 0) c ≡ true → c ≡ b
-    next-here c h = bit-bit-only b c (ap (λ (r : ℕ). bit r c) (sym narrow-here) ∙ next-in u c (omega arith) h)
+    next-here c h = bit-bit-only b c (ap (λ (r : ℕ). bit r c) (sym (narrow-here (w .arrangement) (w .room) (w .strict) u b rows)) ∙ next-in u c (omega arith) h)
 
     next-above : (i c : ℕ) → u < i → i < m → bit (getD next i 0) c ≡ true → (bit (getD rows i 0) c ≡ true) × (agrees (w .arrangement) (w .room) (w .strict) u b i c ≡ true)
-    next-above i c l li h =
-        let both = and-parts (bit (getD rows i 0) c) (bit (agreeing i) c) (sym (bit-and (getD rows i 0) (agreeing i) c) ∙ ap (λ (r : ℕ). bit r c) (sym (narrow-above i l)) ∙ next-in i c li h) in
-        let ag = and-parts (ltb c (w .room .count)) (agrees (w .arrangement) (w .room) (w .strict) u b i c) (sym (has-agreeing i c) ∙ both .1) in
-        (both .0, ag .1)
-
-    -- a row at or past m is empty
-    past : (i c : ℕ) → m ≤ i → bit (getD next i 0) c ≡ true → ⊥
-    past i c l h = both-ways _ (ap (λ (r : ℕ). bit r c) (getD-past next i 0 (omega (arith, next-long))) ∙ bit-none c) h
+    next-above i c l li h = above-holds (w .arrangement) (w .room) (w .strict) u b rows i c l (next-in i c li h)
 
     module _ (held : bit (getD rows u 0) b ≡ true) where
-
       next-back : (i c : ℕ) → bit (getD next i 0) c ≡ true → bit (getD rows i 0) c ≡ true
       next-back i c h =
-          elim (cases-lt i m) [
-            inr l ↦ absurd (past i c l h)
-          | inl li ↦ elim (cases-order i u) [
-              inl z ↦ (let hb : c ≡ b = next-here c (subst (λ (x : ℕ). bit (getD next x 0) c ≡ true) z h) in
-                       subst₂ (λ (x y : ℕ). bit (getD rows x 0) y ≡ true) (sym z) (sym hb) held)
-            | inr o ↦ elim o [
-                inl below ↦ ap (λ (r : ℕ). bit r c) (sym (narrow-below i below)) ∙ next-in i c li h
-              | inr above ↦ next-above i c above li h .0 ] ] ]
+          narrow-inside (w .arrangement) (w .room) (w .strict) u b rows held i c
+          (lawful .adds-none (w .arrangement) (w .room) (w .strict) (narrowed (w .arrangement) (w .room) (w .strict) u b rows) i c h)
 
       -- a wanted placement with the bay b at unit u is within the rows after the try
       to-next : (q : List ℕ) → Wanted w last tied rows q → getD q u 0 ≡ b → Wanted w last tied′ next q
       to-next q h at =
+          let mask : ℕ → ℕ = λ i. row-of (w .room .count) (λ x. agrees (w .arrangement) (w .room) (w .strict) u b i x) in
           record {
             placed = h .placed;
             within = kept w lawful gu gb (narrowed (w .arrangement) (w .room) (w .strict) u b rows) q (h .placed)
-              (λ i l. ap (λ (r : ℕ). bit r (getD q i 0)) (narrow-at i l) ∙ elim (cases-order i u) [
-                  inl z ↦ subst (λ (x : ℕ). bit (narrowed-row (w .arrangement) (w .room) (w .strict) u b rows x) (getD q x 0) ≡ true) (sym z)
-                            (ap (λ (r : ℕ). bit r (getD q u 0)) narrow-here ∙ ap (λ (y : ℕ). bit (2 ^ b) y) at ∙ bit-bit b)
-                | inr o ↦ elim o [
-                    inl below ↦ ap (λ (r : ℕ). bit r (getD q i 0)) (narrow-below i below) ∙ h .within i l
-                  | inr above ↦ ap (λ (r : ℕ). bit r (getD q i 0)) (narrow-above i above) ∙ bit-and (getD rows i 0) (agreeing i) (getD q i 0)
-                      ∙ and-from (bit (getD rows i 0) (getD q i 0)) (bit (agreeing i) (getD q i 0)) (h .within i l)
-                        (has-agreeing i (getD q i 0) ∙ and-from _ _ (lt-ltb (getD q i 0) (w .room .count) (h .placed .on-bays i l))
-                          (subst (λ (y : ℕ). agrees (w .arrangement) (w .room) (w .strict) u y i (getD q i 0) ≡ true) at (h .placed .agree u i (omega arith) l (λ z. omega arith)))) ] ]);
+                (λ i l. ap (λ (r : ℕ). bit r (getD q i 0)) (narrow-at (w .arrangement) (w .room) (w .strict) u b rows i (let e = st .long in omega arith)) ∙ elim (cases-order i u) [
+                  | inl z ↦ subst (λ (x : ℕ). bit (narrowed-row (w .arrangement) (w .room) (w .strict) u b rows x) (getD q x 0) ≡ true) (sym z)
+                      (ap (λ (r : ℕ). bit r (getD q u 0)) (narrow-here (w .arrangement) (w .room) (w .strict) u b rows) ∙ ap (λ (y : ℕ). bit (2 ^ b) y) at ∙ bit-bit b)
+                  | inr o ↦ elim o [
+                    | inl below ↦ ap (λ (r : ℕ). bit r (getD q i 0)) (narrow-below (w .arrangement) (w .room) (w .strict) u b rows i below) ∙ h .within i l
+                    | inr above ↦ ap (λ (r : ℕ). bit r (getD q i 0)) (narrow-above (w .arrangement) (w .room) (w .strict) u b rows i above) ∙ bit-and (getD rows i 0) (mask i) (getD q i 0)
+                        ∙ and-from (bit (getD rows i 0) (getD q i 0)) (bit (mask i) (getD q i 0)) (h .within i l)
+                        (bit-row-of (w .room .count) (λ x. agrees (w .arrangement) (w .room) (w .strict) u b i x) (getD q i 0) ∙ and-from _ _ (lt-ltb (getD q i 0) (w .room .count) (h .placed .on-bays i l))
+                        (subst (λ (y : ℕ). agrees (w .arrangement) (w .room) (w .strict) u y i (getD q i 0) ≡ true) at (h .placed .agree u i (omega arith) l (λ z. omega arith))))
+                  ]
+                ]);
             after = λ t. h .after (and-parts tied (eqb b (getD last u 0)) t .0);
           }
 
       from-next : (q : List ℕ) → (tied ≡ true → b < getD last u 0 → ⊥) → Wanted w last tied′ next q → Wanted w last tied rows q × (getD q u 0 ≡ b)
       from-next q fair h =
           let at : getD q u 0 ≡ b = next-here (getD q u 0) (h .within u (omega arith)) in
-          let within : (k : ℕ) → k < m → bit (getD rows k 0) (getD q k 0) ≡ true = λ i l. next-back i (getD q i 0) (h .within i l) in
-          (record {
-             placed = h .placed;
-             within = within;
-             after = λ t. elim (cases-order b (getD last u 0)) [
-                 inl z ↦ h .after (and-from tied (eqb b (getD last u 0)) t (eq-eqb b (getD last u 0) z))
-               | inr o ↦ elim o [
-                   inl less ↦ absurd (fair t less)
-                 | inr more ↦ record {
-                     unit = u;
-                     below = omega arith;
-                     same = λ k l. sym (st .level t k (getD q k 0) l (within k (omega arith)));
-                     lower = omega arith;
-                   } ] ];
-           }, at)
+          let within : (k : ℕ) → k < m → bit (getD rows k 0) (getD q k 0) ≡ true = λ i l. next-back i (getD q i 0) (h .within i l) in (
+            record {
+              placed = h .placed;
+              within = within;
+              after = λ t. elim (cases-order b (getD last u 0)) [
+                | inl z ↦ h .after (and-from tied (eqb b (getD last u 0)) t (eq-eqb b (getD last u 0) z))
+                | inr o ↦ elim o [
+                  | inl less ↦ absurd (fair t less)
+                  | inr more ↦ record {
+                    unit = u;
+                    below = omega arith;
+                    same = λ k l. sym (st .level t k (getD q k 0) l (within k (omega arith)));
+                    lower = omega arith;
+                  }
+                ]
+              ];
+            },
+            at,
+          )
 
       sub-stands : (tied′ ≡ true → later ≡ 0 → ⊥) → any-empty next ≡ false → Stands w last tied′ (suc u) next
       sub-stands notlast full =
@@ -211,20 +182,23 @@ module _ (w : Setting) (last : List ℕ) (lawful : Lawful (w .filter)) (gu : Sou
             low = λ i c h. st .low i c (next-back i c h);
             full = full;
             settled = λ i j c d l lj ljm hc hd. elim (cases-lt i u) [
-                inl below ↦ st .settled i j c d below lj ljm (next-back i c hc) (next-back j d hd)
+              | inl below ↦ st .settled i j c d below lj ljm (next-back i c hc) (next-back j d hd)
               | inr here ↦ (let z : i ≡ u = omega arith in
-                            let cb : c ≡ b = next-here c (subst (λ (x : ℕ). bit (getD next x 0) c ≡ true) z hc) in
-                            subst₂ (λ (x y : ℕ). agrees (w .arrangement) (w .room) (w .strict) x y j d ≡ true) (sym z) (sym cb) (next-above j d (omega arith) ljm hd .1)) ];
+                  let cb : c ≡ b = next-here c (subst (λ (x : ℕ). bit (getD next x 0) c ≡ true) z hc) in
+                  subst₂ (λ (x y : ℕ). agrees (w .arrangement) (w .room) (w .strict) x y j d ≡ true) (sym z) (sym cb) (next-above j d (omega arith) ljm hd .1))
+            ];
             single = λ i c d l hc hd. elim (cases-lt i u) [
-                inl below ↦ st .single i c d below (next-back i c hc) (next-back i d hd)
+              | inl below ↦ st .single i c d below (next-back i c hc) (next-back i d hd)
               | inr here ↦ (let z : i ≡ u = omega arith in
-                            next-here c (subst (λ (x : ℕ). bit (getD next x 0) c ≡ true) z hc) ∙ sym (next-here d (subst (λ (x : ℕ). bit (getD next x 0) d ≡ true) z hd))) ];
+                  next-here c (subst (λ (x : ℕ). bit (getD next x 0) c ≡ true) z hc) ∙ sym (next-here d (subst (λ (x : ℕ). bit (getD next x 0) d ≡ true) z hd)))
+            ];
             level = λ t i c l hc. elim (cases-lt i u) [
-                inl below ↦ st .level (and-parts tied (eqb b (getD last u 0)) t .0) i c below (next-back i c hc)
+              | inl below ↦ st .level (and-parts tied (eqb b (getD last u 0)) t .0) i c below (next-back i c hc)
               | inr here ↦ (let z : i ≡ u = omega arith in
-                            next-here c (subst (λ (x : ℕ). bit (getD next x 0) c ≡ true) z hc)
-                            ∙ eqb-true b (getD last u 0) (and-parts tied (eqb b (getD last u 0)) t .1)
-                            ∙ ap (λ (x : ℕ). getD last x 0) (sym z)) ];
+                  next-here c (subst (λ (x : ℕ). bit (getD next x 0) c ≡ true) z hc)
+                  ∙ eqb-true b (getD last u 0) (and-parts tied (eqb b (getD last u 0)) t .1)
+                  ∙ ap (λ (x : ℕ). getD last x 0) (sym z))
+            ];
             apart = λ t. elim (cases-eq later 0) [ inl z ↦ absurd (notlast t z) | inr ne ↦ omega arith ];
           }
 
@@ -234,21 +208,26 @@ module _ (w : Setting) (last : List ℕ) (lawful : Lawful (w .filter)) (gu : Sou
         let held : bit (getD rows u 0) b ≡ true = subst (λ (y : ℕ). bit (getD rows u 0) y ≡ true) at (h .within u (omega arith)) in
         let l : ℕ = getD last u 0 in
         elim (and-cases (bit (getD rows u 0) b) _ off) [
-          inl z ↦ both-ways _ z held
-        | inr z ↦ (let t = and-parts tied (ltb b l || eqb b l && eqb later 0) (not-false _ z) in
-                   let B = h .after (t .0) in
-                   let same-below : (k : ℕ) → k < u → getD q k 0 ≡ getD last k 0 = λ k lk. st .level (t .0) k (getD q k 0) lk (h .within k (omega arith)) in
-                   elim (cases-order (B .unit) u) [
-                     inl x ↦ (let low : l < getD q u 0 = subst (λ (y : ℕ). getD last y 0 < getD q y 0) x (B .lower) in
-                              elim (or-cases (ltb b l) (eqb b l && eqb later 0) (t .1)) [
-                                inl y ↦ (let f = ltb-true b l y in omega arith)
-                              | inr y ↦ (let f = eqb-true b l (and-parts (eqb b l) (eqb later 0) y .0) in omega arith) ])
-                   | inr o ↦ elim o [
-                       inl below ↦ (let s = same-below (B .unit) below in let f = B .lower in omega arith)
-                     | inr above ↦ (let s : l ≡ getD q u 0 = B .same u above in
-                                    elim (or-cases (ltb b l) (eqb b l && eqb later 0) (t .1)) [
-                                      inl y ↦ (let f = ltb-true b l y in omega arith)
-                                    | inr y ↦ (let f = eqb-true later 0 (and-parts (eqb b l) (eqb later 0) y .1) in let g = B .below in omega arith) ]) ] ]) ]
+          | inl z ↦ both-ways _ z held
+          | inr z ↦ (let t = and-parts tied (ltb b l || eqb b l && eqb later 0) (not-false _ z) in
+              let B = h .after (t .0) in
+              let same-below : (k : ℕ) → k < u → getD q k 0 ≡ getD last k 0 = λ k lk. st .level (t .0) k (getD q k 0) lk (h .within k (omega arith)) in
+              elim (cases-order (B .unit) u) [
+                | inl x ↦ (let low : l < getD q u 0 = subst (λ (y : ℕ). getD last y 0 < getD q y 0) x (B .lower) in
+                    elim (or-cases (ltb b l) (eqb b l && eqb later 0) (t .1)) [
+                      | inl y ↦ (let f = ltb-true b l y in omega arith)
+                      | inr y ↦ (let f = eqb-true b l (and-parts (eqb b l) (eqb later 0) y .0) in omega arith)
+                    ])
+                | inr o ↦ elim o [
+                  | inl below ↦ (let s = same-below (B .unit) below in let f = B .lower in omega arith)
+                  | inr above ↦ (let s : l ≡ getD q u 0 = B .same u above in
+                      elim (or-cases (ltb b l) (eqb b l && eqb later 0) (t .1)) [
+                        | inl y ↦ (let f = ltb-true b l y in omega arith)
+                        | inr y ↦ (let f = eqb-true later 0 (and-parts (eqb b l) (eqb later 0) y .1) in let g = B .below in omega arith)
+                      ])
+                ]
+              ])
+        ]
 
     -- what an offered bay says
     offer-held : offered (getD rows u 0) tied (getD last u 0) (eqb later 0) b ≡ true → bit (getD rows u 0) b ≡ true
@@ -265,6 +244,10 @@ module _ (w : Setting) (last : List ℕ) (lawful : Lawful (w .filter)) (gu : Sou
         let ts = and-parts tied (eqb b (getD last u 0)) t in
         both-ways _ (offer-open o) (and-from tied _ (ts .0) (or-right (ltb b (getD last u 0)) _ (and-from _ _ (ts .1) (eq-eqb later 0 z))))
 
+    pub next-stands : offered (getD rows u 0) tied (getD last u 0) (eqb later 0) b ≡ true → any-empty (after-try w u b rows) ≡ false
+        → Stands w last (tied && eqb b (getD last u 0)) (suc u) (after-try w u b rows)
+    next-stands o z = sub-stands (offer-held o) (offer-inner o) z
+
     -- the try's outcome, from that of the walk below it
     attempt : offered (getD rows u 0) tied (getD last u 0) (eqb later 0) b ≡ true → (deeper : Outcome) → (any-empty next ≡ false → Answers (Wanted w last tied′ next) (deeper .found)) → (t : Bool) → any-empty next ≡ t
         → Answers (λ q. Wanted w last tied rows q × (getD q u 0 ≡ b)) ((elim t as (λ _. Outcome) [ true ↦ nothing 1 | false ↦ deeper ]) .found)
@@ -278,6 +261,16 @@ module _ (w : Setting) (last : List ℕ) (lawful : Lawful (w .filter)) (gu : Sou
         (λ q h. to-next (offer-held o) q (h .0) (h .1))
         (a z)
 
+  -- what a try comes to, where the walk below finds the first
+  try-with : (tied : Bool) (u later b : ℕ) (rows : List ℕ) → u + suc later ≡ m → Stands w last tied u rows → offered (getD rows u 0) tied (getD last u 0) (eqb later 0) b ≡ true
+      → ((tied′ : Bool) (rows′ : List ℕ) → Stands w last tied′ (suc u) rows′ → Answers (Wanted w last tied′ rows′) (settle w last later tied′ (suc u) rows′ .found))
+      → Answers (λ q. Wanted w last tied rows q × (getD q u 0 ≡ b)) (tried (settle w last later (tied && eqb b (getD last u 0)) (suc u)) (after-try w u b rows) .found)
+  try-with tied u later b rows e st o below =
+      attempt tied u later b rows e st o
+      (counted (settle w last later (tied && eqb b (getD last u 0)) (suc u) (after-try w u b rows)))
+      (λ z. below (tied && eqb b (getD last u 0)) (after-try w u b rows) (next-stands tied u later b rows e st o z))
+      (any-empty (after-try w u b rows)) refl
+
   pub settle-first : (later : ℕ) (tied : Bool) (u : ℕ) (rows : List ℕ) → u + later ≡ m → Stands w last tied u rows → Answers (Wanted w last tied rows) (settle w last later tied u rows .found)
   unfolding settle
   settle-first zero tied u rows e st = leaf tied u rows (omega arith) st
@@ -285,13 +278,14 @@ module _ (w : Setting) (last : List ℕ) (lawful : Lawful (w .filter)) (gu : Sou
       scan-first (w .room .count) (Wanted w last tied rows) (λ q. getD q u 0) (offered (getD rows u 0) tied (getD last u 0) (eqb later 0)) _
       (λ q h. h .placed .on-bays u (omega arith))
       (λ p q hp hq l. record {
-         unit = u;
-         below = omega arith;
-         same = λ k lk. st .single k (getD p k 0) (getD q k 0) lk (hp .within k (omega arith)) (hq .within k (omega arith));
-         lower = l;
-       })
-      (λ b o l. attempt tied u later b rows e st o
-                 (counted (settle w last later (tied && eqb b (getD last u 0)) (suc u) (after-try w u b rows)))
-                 (λ z. settle-first later (tied && eqb b (getD last u 0)) (suc u) (after-try w u b rows) (omega arith) (sub-stands tied u later b rows e st (offer-held tied u later b rows e st o) (offer-inner tied u later b rows e st o) z))
-                 (any-empty (after-try w u b rows)) refl)
+        unit = u;
+        below = omega arith;
+        same = λ k lk. st .single k (getD p k 0) (getD q k 0) lk (hp .within k (omega arith)) (hq .within k (omega arith));
+        lower = l;
+      })
+      (λ b o l. try-with tied u later b rows e st o (λ tied′ rows′ s. settle-first later tied′ (suc u) rows′ (omega arith) s))
       (λ b o l. no-offer tied u later b rows e st o)
+
+  pub try-first : (tied : Bool) (u later b : ℕ) (rows : List ℕ) → u + suc later ≡ m → Stands w last tied u rows → offered (getD rows u 0) tied (getD last u 0) (eqb later 0) b ≡ true
+      → Answers (λ q. Wanted w last tied rows q × (getD q u 0 ≡ b)) (tried (settle w last later (tied && eqb b (getD last u 0)) (suc u)) (after-try w u b rows) .found)
+  try-first tied u later b rows e st o = try-with tied u later b rows e st o (λ tied′ rows′ s. settle-first later tied′ (suc u) rows′ (omega arith) s)
