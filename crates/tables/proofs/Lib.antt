@@ -1,0 +1,7 @@
+pub mod Words
+pub mod Accepted
+pub mod Steps
+pub mod Putting
+pub mod Back
+pub mod Saving
+pub mod Filling

@@ -1,0 +1,16 @@
+use native.Mathlib.Omega.{arith}
+use mathlib.Core.Path.{_≡_}
+use Prim.Native.Nat.{_+_}
+use lib.ListN.{length, drop, length-drop}
+use Rattle.std.proofs.shelf.Lists.{take-rest}
+use Rattle.tables.proofs.Steps.{table-none}
+use Rattle.tables.proofs.read.read_table.Needs as need
+
+pub returns-then-at-input : need.returns-then-at-input
+returns-then-at-input c = table-none _ _ _ (omega (arith, length-drop (c .args .at) (c .args .input .now)))
+
+pub returns : need.returns
+returns c =
+    let ends : c .args .at + length (drop (c .args .at) (c .args .input .now)) ≡ length (c .args .input .now) = omega (arith, length-drop (c .args .at) (c .args .input .now)) in
+    let o = c .read-part .ensures in
+    rw (take-rest, ends) at o
