@@ -10,7 +10,7 @@ use lib.ListN.{length, getD, take, drop, length-append}
 use lib.Dec.{eqb, ltb}
 use borrow.Author.Tests.{ne-eqb, eqb-true, eqb-false, ltb-false}
 use Rattle.std.proofs.shelf.Bits.{div-below, pow-pos, shr-below}
-use Rattle.std.proofs.shelf.Lists.{take-append-drop, getD-drop}
+use Rattle.std.proofs.shelf.Lists.{take-append-drop}
 use Rattle.std.proofs.shelf.Results.{made-weaker}
 use Rattle.std.proofs.shelf.Tests.{cond-both}
 use Rattle.std.specs.Vec.{made}
@@ -25,7 +25,9 @@ use Rattle.tables.specs.Bytes.{Bytes, from-bytes, bytes-of}
 use Rattle.tables.specs.Shape.{Inside}
 use Rattle.tables.specs.Form.{Form, Lawful}
 use Rattle.tables.specs.Written.{map-of, rows-bytes, table-bytes}
-use Rattle.tables.specs.Read.{read-rows, behind, and-then, read-row, read-map, read-count, table-from, ill, held}
+use Rattle.tables.specs.Parts.{and-then}
+use Rattle.tables.proofs.Parts.{bytes-drop}
+use Rattle.tables.specs.Read.{read-rows, behind, read-row, read-map, read-count, table-from, ill, held}
 
 -- ---- numbers and their bytes
 
@@ -126,9 +128,6 @@ Good n map columns at bs r = made r (λ p. Rows n map columns at bs (p .0) (p .1
 behind-made : (row : ℕ) (r : Result (List ℕ × ℕ) TableFault) (P Q : List ℕ → ℕ → Type 0) → made r (λ p. P (p .0) (p .1)) → ((rs : List ℕ) (next : ℕ) → P rs next → Q (row ∷ rs) next) → made (behind row r) (λ p. Q (p .0) (p .1))
 behind-made row (Ok p) P Q g f = f (p .0) (p .1) g
 behind-made row (Err e) P Q g f = tt
-
-pub bytes-drop : (n : ℕ) (bs : List ℕ) → Bytes bs → Bytes (drop n bs)
-bytes-drop n bs B i = rw getD-drop (B (n + i))
 
 not-zero : (n : ℕ) → (n % 2 ≡ 0 → ⊥) → n % 2 ≡ 1
 not-zero n h = omega arith

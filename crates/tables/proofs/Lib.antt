@@ -5,3 +5,5 @@ pub mod Putting
 pub mod Back
 pub mod Saving
 pub mod Filling
+pub mod Parts
+pub mod Tables

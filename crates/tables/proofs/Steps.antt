@@ -17,7 +17,8 @@ use Rattle.tables.specs.declared.fault.TableFault.{TableFault}
 use Rattle.tables.specs.declared.fault.TableCause.the-variants.{Ended}
 use Rattle.tables.specs.Bytes.{from-bytes}
 use Rattle.tables.specs.Shape.{Inside, Blank}
-use Rattle.tables.specs.Read.{read-rows, behind, and-then, read-row, read-map, checked-map, lowest-past, read-count, table-from, checked-count, ill, held}
+use Rattle.tables.specs.Parts.{and-then}
+use Rattle.tables.specs.Read.{read-rows, behind, read-row, read-map, checked-map, lowest-past, read-count, table-from, checked-count, ill, held}
 use Rattle.tables.proofs.Accepted.{Row, row-accepted}
 
 -- what was read with rows in front

@@ -15,12 +15,9 @@ use Rattle.tables.specs.declared.fault.TableFault.{TableFault}
 use Rattle.tables.specs.declared.table.Table.{Table}
 use Rattle.tables.specs.Bytes.{from-bytes}
 use Rattle.tables.specs.Form.{Form, view}
+use Rattle.tables.specs.Parts.{and-then, Reader}
 
 -- In what follows `end` is the length of the whole input, and `bs` what it holds from the place `at` on.
-
-abbrev pub and-then : {X Y E : Type 0} → Result X E → (X → Result Y E) → Result Y E
-and-then (Ok x) f = f x
-and-then (Err e) f = Err e
 
 abbrev pub ill : {X : Type 0} → TableCause → ℕ → Result X TableFault
 ill c p = Err (record { cause = c; place = p })
@@ -80,7 +77,7 @@ table-from end at bs =
     read-map count columns end (at + 2) (drop 2 bs)))
 
 -- a table from the place `at` of the input on, and the place behind it
-abbrev pub read-table : (input : List ℕ) (at : ℕ) → Result (Form × ℕ) TableFault
+abbrev pub read-table : Reader Form TableFault
 read-table input at = table-from (length input) at (drop at input)
 
 -- what was read, by what the table holds

@@ -3,6 +3,9 @@ ghost use Prim.Native.Nat.{ℕ, _+_, _^_, _<_, _≤_};
 ghost use lib.ListN.{length};
 ghost use Rattle.std.specs.Options.{Cases};
 ghost use Rattle.std.specs.Vec.{made};
+ghost use Rattle.tables.specs.Form.{Lawful};
+ghost use Rattle.tables.specs.Parts.{Anything, Exact};
+ghost use Rattle.tables.specs.Written.{table-bytes};
 ghost use Rattle.tables.specs.Read.{lowest-past, checked-row, checked-count, held, read-map, read-row, read-rows, table-from, read-table, seen};
 use crate::fault::TableCause;
 use crate::fault::TableFault;
@@ -162,7 +165,9 @@ fn read_part(part: &[u8], at: usize) -> Result<(Table, usize), TableFault>
 
 // The table from the place `at` on, and the place behind it.
 pub fn read_table(input: &[u8], at: usize) -> Result<(Table, usize), TableFault>
-    ensures { λ r. ⌜ seen r ≡ read-table (now (input .entry)) at ⌝ }
+    ensures value { λ r. ⌜ seen r ≡ read-table (now (input .entry)) at ⌝ }
+    ensures within { λ r. ⌜ made r (λ p. p .1 ≤ length (now (input .entry))) ⌝ }
+    ensures exact { λ _. ⌜ Exact Lawful Anything read-table table-bytes ⌝ }
 {
     if at > input.len() {
         return Err(TableFault {

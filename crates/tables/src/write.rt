@@ -1,10 +1,13 @@
 ghost use mathlib.Core.Path.{_≡_};
 ghost use Prim.Native.Nat.{ℕ, _+_, _-_, _*_, _<_, _≤_};
-ghost use lib.ListN.{length, drop};
+ghost use lib.ListN.{length, take, drop};
+ghost use Rattle.std.specs.Vec.{made};
+ghost use Rattle.std.specs.declared.result.Result.the-variants.{Ok};
 ghost use Rattle.text.specs.Lay.{lay};
 ghost use Rattle.tables.specs.Bytes.{bytes-of};
 ghost use Rattle.tables.specs.Form.{view};
-ghost use Rattle.tables.specs.Written.{map-of, rows-bytes, table-bytes};
+ghost use Rattle.tables.specs.Read.{read-table};
+ghost use Rattle.tables.specs.Written.{map-of, rows-bytes, table-bytes, stored};
 ghost use Rattle.tables.specs.Saved.{Saved};
 use crate::fault::SaveFault;
 use crate::table::Table;
@@ -71,6 +74,8 @@ fn put_rows(out: &mut [u8], at: usize, rows: &[u64]) -> usize
 // Writes the saved form of a table into the buffer, and answers its length; declines where the buffer is shorter.
 pub fn write_table(table: &Table, out: &mut [u8]) -> Result<usize, SaveFault>
     ensures saved { λ r. ⌜ Saved (table-bytes (view (now (table .entry)))) (now (out .entry)) (now (out .exit)) r ⌝ }
+    ensures back { λ r. ⌜ made r (λ n. read-table (take n (now (out .exit))) 0 ≡ Ok (view (now (table .entry)), n)) ⌝ }
+    ensures size { λ _. ⌜ length (table-bytes (view (now (table .entry)))) ≡ 10 + 8 * stored (view (now (table .entry)) .rows) ⌝ }
 {
     let rows = table.rows();
     if out.len() < 10 + rows_len(rows) {
