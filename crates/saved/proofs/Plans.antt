@@ -1,12 +1,13 @@
 -- Saved plans are an exact part. Assumes nothing.
-use mathlib.Core.Path.{_≡_, refl, ap, sym, _∙_}
-use mathlib.Core.List.{List, [], _∷_, _++_}
+use mathlib.Core.Path.{_≡_, refl, ap, sym, subst, _∙_}
+use mathlib.Core.List.{List, [], _∷_, _++_, append-nil}
 use mathlib.Core.Bool.{Bool, true, _&&_}
 use Prim.Native.Nat.{ℕ, zero, suc, _+_, _*_, _≤_}
 use native.Mathlib.Omega.{arith}
 use lib.ListN.{length, getD, take}
 use lib.Dec.{eqb, leb}
 use Rattle.std.proofs.shelf.Tests.{and-from, and-parts, eqb-true, le-leb, leb-true}
+use Rattle.std.specs.declared.result.Result.{Result}
 use Rattle.std.specs.declared.result.Result.the-variants.{Ok, Err}
 use Rattle.tables.specs.Bytes.{Bytes}
 use Rattle.tables.specs.Form.{Form, Lawful}
@@ -14,9 +15,10 @@ use Rattle.tables.specs.Parts.{and-then, Anything, Nothing, Exact}
 use Rattle.tables.specs.Read.{read-table}
 use Rattle.tables.specs.Saved.{Saved}
 use Rattle.tables.specs.Written.{table-bytes, stored}
-use Rattle.tables.proofs.Parts.{after-exact, alone-exact, checked-exact, inside-exact, some-bytes-exact, turned-exact}
+use Rattle.tables.proofs.Parts.{after-exact, and-then-ok, alone-exact, checked-exact, inside-exact, some-bytes-exact, turned-exact}
 use Rattle.tables.proofs.Saving.{saved-back}
 use Rattle.tables.proofs.Tables.{table-exact, table-length}
+use Rattle.saved.specs.declared.fault.PlanFault.{PlanFault}
 use Rattle.saved.specs.declared.fault.PlanFault.the-variants as P
 use Rattle.saved.specs.Plan.{PlanLawful, sized, form-part, struck-part, plan-bytes, plan-part, read-plan}
 
@@ -71,3 +73,19 @@ plan-length f = omega (arith, table-length f)
 -- what was saved opens to the same plan
 pub plan-saved-back : (f : Form) (out out′ : List ℕ) (n : ℕ) → Saved (plan-bytes f) out out′ (Ok n) → PlanLawful f → read-plan (take n out′) 0 ≡ Ok f
 plan-saved-back f out out′ n s l = ap (λ r. and-then {Y = Form} r (λ p. Ok (p .0))) (saved-back plan-bytes plan-exact refl f l out out′ (Ok n) s)
+
+-- bytes open to a plan exactly if they are its saved form
+pub plan-opens : (bs : List ℕ) (f : Form) → PlanLawful f → bs ≡ plan-bytes f → read-plan bs 0 ≡ Ok f
+plan-opens bs f l e =
+    ap (λ r. and-then {Y = Form} r (λ p. Ok (p .0))) (plan-exact .back f l bs 0 [] refl (e ∙ sym (append-nil (plan-bytes f))))
+
+pub plan-opened : (bs : List ℕ) (f : Form) → Bytes bs → read-plan bs 0 ≡ Ok f → PlanLawful f × (bs ≡ plan-bytes f)
+plan-opened bs f B h =
+    let a = and-then-ok (plan-part bs 0) _ f h in
+    let same : a .0 .0 ≡ f = same-ok (a .2) in
+    let g = plan-exact .only bs 0 B (a .0 .0) (a .0 .1) (a .1) in
+    (subst PlanLawful same (g .lawful),
+     g .form ∙ ap (λ t. plan-bytes (a .0 .0) ++ t) (g .follows) ∙ append-nil (plan-bytes (a .0 .0)) ∙ ap plan-bytes same)
+  where
+    same-ok : {x y : Form} → _≡_ {A = Result Form PlanFault} (Ok x) (Ok y) → x ≡ y
+    same-ok e = cc

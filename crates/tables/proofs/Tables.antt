@@ -1,14 +1,15 @@
 -- Tables are an exact part, as long as their stored rows make them, and every table is lawful. Assumes nothing.
-use mathlib.Core.Path.{_≡_, refl, ap, sym, subst, _∙_}
-use mathlib.Core.List.{List, [], _∷_, _++_}
+use mathlib.Core.Path.{_≡_, refl, ap, ap₂, sym, subst, _∙_}
+use mathlib.Core.List.{List, [], _∷_, _++_, map}
 use mathlib.Core.Bool.{Bool, true, false, cond}
 use mathlib.Core.Logic.{inl, inr}
-use Prim.Native.Nat.{ℕ, _+_, _*_, _^_, _≤_, _<_}
+use Prim.Native.Nat.{ℕ, suc, _+_, _*_, _%_, _^_, min, _≤_, _<_}
 use native.Mathlib.Omega.{arith}
+use native.Mathlib.Nat.{mod-eq-of-lt}
 use lib.ListN.{length, getD, take, drop, length-append, length-drop}
 use lib.Dec.{eqb}
 use Rattle.std.proofs.shelf.Bits.{pow-pos}
-use Rattle.std.proofs.shelf.Lists.{drop-at, drop-drop, getD-past, getD-take, length-take}
+use Rattle.std.proofs.shelf.Lists.{drop-at, drop-drop, getD-past, getD-take, length-take, take-all}
 use Rattle.std.proofs.shelf.Results.{made-at-ok, made-weaker}
 use Rattle.std.proofs.shelf.Tests.{cases-lt}
 use Rattle.std.specs.Vec.{made}
@@ -16,7 +17,8 @@ use Rattle.std.specs.declared.result.Result.{Result}
 use Rattle.std.specs.declared.result.Result.the-variants.{Ok, Err}
 use Rattle.tables.specs.declared.table.Table.{Table}
 use Rattle.tables.specs.Bytes.{Bytes, bytes-of}
-use Rattle.tables.specs.Form.{Form, Lawful, view}
+use Rattle.tables.specs.Form.{Form, Lawful, form-of, view}
+use Rattle.tables.specs.Shape.{Inside}
 use Rattle.tables.specs.Parts.{Anything, Holds, Exact}
 use Rattle.tables.specs.Read.{read-table, table-from, seen}
 use Rattle.tables.specs.Written.{rows-bytes, table-bytes, stored}
@@ -71,3 +73,15 @@ view-lawful t =
         | inr g ↦ subst (λ (x : ℕ). x < 2 ^ t .columns) (sym (getD-past (take (t .count) (t .bits)) k 0 (omega (arith, length-take (t .count) (t .bits))))) (pow-pos (t .columns))
       ];
     }
+
+all-kept : (columns : ℕ) (rows : List ℕ) → Inside columns rows → map (λ row. row % 2 ^ columns) rows ≡ rows
+all-kept columns [] h = refl
+all-kept columns (r ∷ rs) h = ap₂ (λ x xs. x ∷ xs) (mod-eq-of-lt {n = r} {m = 2 ^ columns} (h 0)) (all-kept columns rs (λ k. h (suc k)))
+
+-- a table made of lawful rows holds just those
+pub form-kept : (columns : ℕ) (rows : List ℕ) → Lawful (record { columns = columns; rows = rows }) → form-of columns rows ≡ record { columns = columns; rows = rows }
+form-kept columns rows l =
+    let wide : min columns 64 ≡ columns = omega (arith, l .few-columns) in
+    ap (λ n. record { columns = n; rows = map (λ row. row % 2 ^ n) (take 64 rows) }) wide
+    ∙ ap (λ rs. record { columns = columns; rows = map (λ row. row % 2 ^ columns) rs }) (take-all 64 rows (l .few-rows))
+    ∙ ap (λ rs. record { columns = columns; rows = rs }) (all-kept columns rows (l .inside))

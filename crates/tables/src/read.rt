@@ -132,10 +132,10 @@ fn read_map(
         });
     };
     let map = u64::from_le_bytes([*m0, *m1, *m2, *m3, *m4, *m5, *m6, *m7]);
-    if let Some(bit) = lowest_past(map, count) {
+    if let Some(past) = lowest_past(map, count) {
         return Err(TableFault {
             cause: TableCause::MapBit,
-            place: at + bit / 8,
+            place: at + past / 8,
         });
     }
     read_rows(rest, at + 8, count, columns, map)

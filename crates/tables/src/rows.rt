@@ -1,9 +1,8 @@
 // The rows of a table.
 ghost use mathlib.Core.Path.{_≡_};
-ghost use mathlib.Core.List.{map};
-ghost use Prim.Native.Nat.{_%_, _^_, _≤_, min};
-ghost use lib.ListN.{length, take};
-ghost use Rattle.tables.specs.Form.{Form, view};
+ghost use Prim.Native.Nat.{_%_, _^_, _≤_};
+ghost use lib.ListN.{length};
+ghost use Rattle.tables.specs.Form.{form-of, view};
 use crate::table::Table;
 
 // The bits of a row below the column count.
@@ -16,7 +15,7 @@ fn cut(row: u64, columns: usize) -> u64
 impl Table {
     // The table of the first 64 rows and 64 columns of what is given; bits at or past the columns are left out.
     pub fn from_rows(columns: usize, rows: &[u64]) -> Table
-        ensures { λ r. ⌜ view r ≡ record { columns = min columns 64; rows = map (λ row. row % 2 ^ (min columns 64)) (take 64 (now (rows .entry))) } ⌝ }
+        ensures { λ r. ⌜ view r ≡ form-of columns (now (rows .entry)) ⌝ }
     {
         let width = columns.min(64);
         let count = rows.len().min(64);
