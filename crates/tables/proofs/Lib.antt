@@ -1,0 +1,9 @@
+pub mod Words
+pub mod Accepted
+pub mod Steps
+pub mod Putting
+pub mod Back
+pub mod Saving
+pub mod Filling
+pub mod Parts
+pub mod Tables
