@@ -1,1 +1,4 @@
 pub mod Finding
+pub mod Verdicts
+pub mod Balance
+pub mod Unique

@@ -6,8 +6,8 @@ use Rattle.std.specs.declared.result.Result.{Result}
 use Rattle.std.specs.declared.result.Result.the-variants.{Ok, Err}
 use Rattle.graphs.specs.Rows.{pairs}
 use Rattle.tables.specs.Form.{Form}
-use Rattle.tables.specs.declared.plan.PlanFault.{PlanFault}
-use Rattle.tables.specs.Plan.{read-plan}
+use Rattle.saved.specs.declared.fault.PlanFault.{PlanFault}
+use Rattle.saved.specs.Plan.{read-plan}
 use Rattle.ledgers.specs.Calls.{Call, begin, «open», strike, free, fit, fit-further, seek, further, what-if, tally, save}
 use Rattle.ledgers.specs.Ledger.{ledger, verdict, by-verdict}
 use Rattle.ledgers.specs.Answered.{how-many}

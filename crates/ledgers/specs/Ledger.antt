@@ -15,9 +15,9 @@ use Rattle.placements.specs.Listing.{find}
 use Rattle.books.specs.Fit.{Cards}
 use Rattle.search.specs.Walk.{Setting}
 use Rattle.tables.specs.Form.{Form}
-use Rattle.tables.specs.declared.plan.PlanFault.{PlanFault}
-use Rattle.tables.specs.Plan.{read-plan, plan-bytes}
-use Rattle.tables.specs.Told.{plan-told}
+use Rattle.saved.specs.declared.fault.PlanFault.{PlanFault}
+use Rattle.saved.specs.Plan.{read-plan, plan-bytes}
+use Rattle.saved.specs.Told.{plan-told}
 use Rattle.ledgers.specs.Calls.{Call, begin, «open», strike, free, fit, fit-further, seek, further, what-if, tally, save, Refusal, rule, ill}
 use Rattle.ledgers.specs.Wanted.{wanted}
 

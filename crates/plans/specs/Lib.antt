@@ -1,4 +1,3 @@
 pub mod Bounds
 pub mod Refused
 pub mod Step
-pub mod Runs

@@ -16,6 +16,7 @@ use Rattle.ledgers.specs.Wanted.{Fair, held-to}
 use Rattle.ledgers.specs.Ledger.{Ledger, begun, ledger, accepted, declined, verdict, made, saved-form, form-of, other-counts, open-pairs, find-in}
 use Rattle.ledgers.specs.Answered.{over, how-many, tries-in, Open, Some-has}
 use Rattle.ledgers.specs.Counts.{counted}
+use Rattle.ledgers.specs.Ranged.{Ranged}
 use Rattle.plans.specs.Step.{view, Same, Turn, turn, Step, Fresh, Shows}
 use Rattle.plans.specs.declared.plan.Plan.{Plan}
 
@@ -72,15 +73,6 @@ Searches {a = a} {b = b} x s o out =
     let t = tries-in l s (open-pairs l) o in
     ((w : List ℕ) × IsFirst (Open l s o) w × (a ≡ found t) × (b ≡ over w out) × (becomes x .last ≡ Some w))
     ⊎ (((w : List ℕ) → Open l s o w → ⊥) × (a ≡ none t) × (b ≡ out) × Unchanged x)
-
--- sizes in range, and strikes only inside them
-pub record Ranged (m n : ℕ) (s : Pairs) : Type 0 where
-  pub some-units : 1 ≤ m
-  pub few-units : m ≤ 24
-  pub some-bays : 1 ≤ n
-  pub few-bays : n ≤ 64
-  pub units : (u b : ℕ) → m ≤ u → s u b ≡ false
-  pub bays : (u b : ℕ) → n ≤ b → s u b ≡ false
 
 -- the turns that are no what-ifs
 abbrev pub asks : Call → Bool

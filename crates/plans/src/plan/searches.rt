@@ -1,9 +1,14 @@
 // The calls that search.
 ghost use mathlib.Core.Path.{_≡_};
+ghost use mathlib.Core.Bool.{_&&_};
 ghost use mathlib.Core.List.{[], _++_};
 ghost use Prim.Native.Nat.{_≤_};
+ghost use lib.Dec.{leb};
 ghost use lib.ListN.{length, take, drop};
-ghost use Rattle.search.specs.Walk.{setting};
+ghost use Rattle.std.specs.declared.option.Option.the-variants.{Some};
+ghost use Rattle.filters.specs.Filter.{shaped};
+ghost use Rattle.search.specs.Walk.{setting, walk};
+ghost use Rattle.search.specs.Found.{answer-of, Finds-next};
 ghost use Rattle.ledgers.specs.Calls.{seek, further, what-if};
 ghost use Rattle.plans.specs.Refused.{finding, asking};
 ghost use Rattle.plans.specs.Step.{Step, Shows, turn};
@@ -13,6 +18,7 @@ use crate::refusal::Refusal;
 use filters::Filter;
 use graphs::Source;
 use graphs::pairs::without;
+use search::Find;
 use search::SearchError;
 use search::first;
 use search::next_after;
@@ -25,6 +31,14 @@ fn copy(from: &[u8; 24], units: usize, out: &mut [u8])
     for i in 0..units {
         out[i] = from[i];
     }
+}
+
+// The first placement within the rows after the last answer, which is lent whole.
+fn next_in<A: Source, R: Source, F: Filter>(arrangement: &A, room: &R, strict: bool, filter: &F, rows: &[u64], last: &[u8; 24]) -> Result<Find, SearchError>
+    ensures answer { λ r. ⌜ r ≡ answer-of (shaped (A·Source .graph (now (arrangement .entry))) (R·Source .graph (now (room .entry))) (now (rows .entry)) && leb (length (now (rows .entry))) 24) (walk (setting (A·Source .graph (now (arrangement .entry))) (R·Source .graph (now (room .entry))) strict (F·Filter .left (now (filter .entry)))) (Some (take (length (now (rows .entry))) (now (last .entry)))) (now (rows .entry))) ⌝ }
+    ensures theorem { λ _. ⌜ Finds-next ⌝ }
+{
+    next_after(arrangement, room, strict, filter, rows, last)
 }
 
 impl Plan {
@@ -51,8 +65,10 @@ impl Plan {
                 self.last = last;
                 Ok(find.tries)
             }
-            Err(SearchError::NoPlacement { tries }) => Err(Refusal::NoPlacement(tries)),
-            Err(SearchError::IllShaped) => unreachable(),
+            Err(error) => match error {
+                SearchError::NoPlacement { tries } => Err(Refusal::NoPlacement(tries)),
+                SearchError::IllShaped => unreachable(),
+            },
         }
     }
 
@@ -75,15 +91,17 @@ impl Plan {
         }
         let units = self.units;
         let rows = without(&self.fitted, &self.struck);
-        match next_after(arrangement, room, strict, filter, &rows[0..units], &last[0..units]) {
+        match next_in(arrangement, room, strict, filter, &rows[0..units], &last) {
             Ok(find) => {
                 copy(&find.bays, units, out);
                 let newest = Some(find.bays);
                 self.last = newest;
                 Ok(find.tries)
             }
-            Err(SearchError::NoPlacement { tries }) => Err(Refusal::NoPlacement(tries)),
-            Err(SearchError::IllShaped) => unreachable(),
+            Err(error) => match error {
+                SearchError::NoPlacement { tries } => Err(Refusal::NoPlacement(tries)),
+                SearchError::IllShaped => unreachable(),
+            },
         }
     }
 
@@ -109,8 +127,10 @@ impl Plan {
         let rows = without(guard.rows, &struck);
         match first(arrangement, room, strict, filter, &rows[0..units]) {
             Ok(find) => Ok(find.tries),
-            Err(SearchError::NoPlacement { tries }) => Err(Refusal::NoPlacement(tries)),
-            Err(SearchError::IllShaped) => unreachable(),
+            Err(error) => match error {
+                SearchError::NoPlacement { tries } => Err(Refusal::NoPlacement(tries)),
+                SearchError::IllShaped => unreachable(),
+            },
         }
     }
 }

@@ -1,0 +1,4 @@
+pub mod Steps
+pub mod Striking
+pub mod Fitting
+pub mod Searching
