@@ -2,3 +2,4 @@ pub mod Steps
 pub mod Striking
 pub mod Fitting
 pub mod Searching
+pub mod Opening
