@@ -35,7 +35,7 @@ FitsIn m n (fits f) = ((u b : ℕ) → m ≤ u → f u b ≡ false) × ((u b : �
 
 abbrev pub AnswersIn : ℕ → ℕ → Option (List ℕ) → Type 0
 AnswersIn m n None = Unit {0}
-AnswersIn m n (Some w) = (length w ≡ m) × ((u : ℕ) → getD w u 0 < n)
+AnswersIn m n (Some w) = (length w ≤ m) × ((u : ℕ) → getD w u 0 < n)
 
 pub record Good (l : Ledger) : Type 0 where
   pub ranged : Ranged (l .units) (l .bays) (l .struck)
@@ -64,7 +64,7 @@ good-find l s o g ea er = record { ranged = g .ranged; fitted = g .fitted; last 
     go None x = g .last
     go (Some w) x =
         let long = x .holds .placed .whole ∙ ea in
-        (long,
+        ((let e = long in omega arith),
          λ u. ⊎-elim (λ lt. let b = x .holds .placed .on-bays u (let e = ea in omega arith) in let e = er in omega arith)
               (λ ge. let P : ℕ → Type 0 = λ k. k < l .bays in subst P (sym (getD-past w u 0 (let e = long in omega arith))) (g .ranged .some-bays)) (cases-lt u (l .units)))
 

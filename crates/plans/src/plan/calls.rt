@@ -9,6 +9,7 @@ ghost use Rattle.books.specs.Fit.{handed};
 ghost use Rattle.ledgers.specs.Calls.{begin, «open», strike, free, fit, fit-further, tally, save, number};
 ghost use Rattle.plans.specs.Refused.{doing, saving, opening};
 ghost use Rattle.plans.specs.Step.{Step, Shows, Fresh, turn};
+ghost use Rattle.plans.specs.Runs.{Law};
 use crate::plan::Plan;
 use crate::refusal::Refusal;
 use books::Book;
@@ -38,6 +39,7 @@ impl Plan {
     // A plan of one unit and one bay.
     pub fn new() -> Plan
         ensures fresh { λ r. ⌜ Fresh r ⌝ }
+        ensures law { λ _. ⌜ Law ⌝ }
     {
         Plan { units: 1, bays: 1, struck: [0; 24], fit: false, fitted: [0; 24], last: None }
     }
