@@ -21,7 +21,7 @@ started-requires c κs =
     let eu = ap length (c .rows-units .ensures .value) in
     let eb = c .columns-bays .ensures in
     let es : (u : ℕ) → getD (c .front-rows-struck .result) u 0 ≡ cond (ltb u 24) (getD (f .rows) u 0) 0 =
-        λ u. c .front-rows-struck .ensures u ∙ ap (λ (r : List ℕ). cond (ltb u 24) (getD r u 0) 0) (c .rows .ensures .value) in
+    λ u. c .front-rows-struck .ensures u ∙ ap (λ (r : List ℕ). cond (ltb u 24) (getD r u 0) 0) (c .rows .ensures .value) in
     record {
       some-units = omega (arith, eu, l .some-units);
       few-units = omega (arith, eu, l .few-units);
@@ -39,7 +39,7 @@ returns c =
     let l = plan-opened (c .args .bytes .now) f bytes e .0 in
     let s = c .started .ensures in
     let struck : (u : ℕ) → getD (c .started .result .struck) u 0 ≡ cond (ltb u 24) (getD (f .rows) u 0) 0 =
-        λ u. ap (λ (r : List ℕ). getD r u 0) (s .struck) ∙ c .front-rows-struck .ensures u ∙ ap (λ (r : List ℕ). cond (ltb u 24) (getD r u 0) 0) (c .rows .ensures .value) in
+    λ u. ap (λ (r : List ℕ). getD r u 0) (s .struck) ∙ c .front-rows-struck .ensures u ∙ ap (λ (r : List ℕ). cond (ltb u 24) (getD r u 0) 0) (c .rows .ensures .value) in
     record {
       step = open-step (c .args .self .now) _ (c .args .bytes .now) f e l (s .units ∙ ap length (c .rows-units .ensures .value)) (s .bays ∙ c .columns-bays .ensures) struck (s .fit) (s .last);
       shows = bytes;
