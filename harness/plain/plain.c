@@ -100,16 +100,14 @@ static uint64_t all_of(int n) { return ~0ull >> (64 - n); }
 
 static bool degree(const Room *r, uint64_t *rows) {
     const Graph *a = &r->units, *g = &r->bays;
-    int joints[64];
-    for (int b = 0; b < g->count; b++) joints[b] = __builtin_popcountll(g->row[b]);
+    uint64_t fewer[65] = {0}; /* at k the bays with fewer than k joints */
+    for (int b = 0; b < g->count; b++) fewer[__builtin_popcountll(g->row[b]) + 1] |= 1ull << b;
+    for (int k = 0; k < 64; k++) fewer[k + 1] |= fewer[k];
     bool full = true;
     for (int u = 0; u < a->count; u++) {
-        int wanted = __builtin_popcountll(a->row[u]), apart = a->count - 1 - wanted;
-        uint64_t row = rows[u];
-        for (uint64_t rest = row; rest; rest &= rest - 1) {
-            int b = __builtin_ctzll(rest);
-            if (joints[b] < wanted || (r->strict && g->count - 1 - joints[b] < apart)) row &= ~(1ull << b);
-        }
+        int joints = __builtin_popcountll(a->row[u]), most = g->count - (a->count - 1 - joints);
+        uint64_t row = rows[u] & ~fewer[joints];
+        if (r->strict) row &= most > 0 ? fewer[most] : 0;
         rows[u] = row;
         full &= row != 0;
     }
