@@ -52,7 +52,8 @@ fn repeated<A: Source, R: Source, F: Filter>(
 fn line<A: Source, R: Source, F: Filter>(
     rt: &LibcRuntime,
     timed: bool,
-    words: &str,
+    name: &str,
+    by: &str,
     filter: &F,
     arrangement: &A,
     room: &R,
@@ -63,7 +64,7 @@ fn line<A: Source, R: Source, F: Filter>(
     let units = arrangement.count();
     let bays = room.count();
     if !timed {
-        return println!(rt, "apply {words} {units} {bays} {pairs} taken");
+        return println!(rt, "apply {name} {by} {units} {bays} {pairs} taken");
     }
     let start = Instant::now(rt)?;
     let all = repeated(filter, arrangement, room, strict, rows);
@@ -72,7 +73,7 @@ fn line<A: Source, R: Source, F: Filter>(
         println!(rt, "{all} pairs in {TURNS} turns")?;
     }
     let nanos = span.as_nanos() / TURNS as u128;
-    println!(rt, "apply {words} {units} {bays} {pairs} taken {nanos}")
+    println!(rt, "apply {name} {by} {units} {bays} {pairs} taken {nanos}")
 }
 
 // Each filter in one room.
@@ -85,21 +86,17 @@ fn lines<A: Source, R: Source>(
     strict: bool,
     rows: &[u64],
 ) -> io::Result<()> {
-    let heap = rt.alloc();
     let both = Then {
         first: Degree,
         second: ArcConsistency,
     };
-    let words = format!(heap, "{name} degree")?;
-    line(rt, timed, words.as_str(), &Degree, arrangement, room, strict, rows)?;
-    let words = format!(heap, "{name} arcs")?;
-    line(rt, timed, words.as_str(), &ArcConsistency, arrangement, room, strict, rows)?;
-    let words = format!(heap, "{name} both")?;
-    line(rt, timed, words.as_str(), &both, arrangement, room, strict, rows)
+    line(rt, timed, name, "degree", &Degree, arrangement, room, strict, rows)?;
+    line(rt, timed, name, "arcs", &ArcConsistency, arrangement, room, strict, rows)?;
+    line(rt, timed, name, "both", &both, arrangement, room, strict, rows)
 }
 
 // Each filter in the first room of the family.
-pub fn applications(rt: &LibcRuntime, timed: bool, family: Family) -> io::Result<()> {
+pub fn applications(rt: &LibcRuntime, timed: bool, family: &Family) -> io::Result<()> {
     let drawn = family.room(1);
     let units = drawn.units.count.min(24);
     let bays = drawn.bays.count.min(64);

@@ -12,248 +12,165 @@ use std::env;
 use std::io;
 
 // Arrangements of 24 units on rooms of 64 bays, with all pairs open or few of them.
-fn apply_filters(rt: &LibcRuntime, timed: bool) -> io::Result<()> {
-    applications(
-        rt,
-        timed,
-        Family {
-            name: "sparse",
-            rooms: 1,
-            units: Shape::Tree { nodes: 24, more: 8 },
-            bays: Shape::Random { nodes: 64, hundredths: 10 },
-            strict: false,
-            open: 100,
-        },
-    )?;
-    applications(
-        rt,
-        timed,
-        Family {
-            name: "sparse-thin",
-            rooms: 1,
-            units: Shape::Tree { nodes: 24, more: 8 },
-            bays: Shape::Random { nodes: 64, hundredths: 10 },
-            strict: false,
-            open: 30,
-        },
-    )?;
-    applications(
-        rt,
-        timed,
-        Family {
-            name: "dense",
-            rooms: 1,
-            units: Shape::Random { nodes: 24, hundredths: 50 },
-            bays: Shape::Random { nodes: 64, hundredths: 60 },
-            strict: false,
-            open: 100,
-        },
-    )?;
-    applications(
-        rt,
-        timed,
-        Family {
-            name: "dense-thin",
-            rooms: 1,
-            units: Shape::Random { nodes: 24, hundredths: 50 },
-            bays: Shape::Random { nodes: 64, hundredths: 60 },
-            strict: false,
-            open: 15,
-        },
-    )?;
-    applications(
-        rt,
-        timed,
-        Family {
-            name: "wall",
-            rooms: 1,
-            units: Shape::Grid { columns: 6, levels: 4 },
-            bays: Shape::Wall { columns: 8, levels: 8 },
-            strict: false,
-            open: 100,
-        },
-    )?;
-    applications(
-        rt,
-        timed,
-        Family {
-            name: "grid",
-            rooms: 1,
-            units: Shape::Grid { columns: 6, levels: 4 },
-            bays: Shape::Grid { columns: 8, levels: 8 },
-            strict: false,
-            open: 100,
-        },
-    )?;
-    applications(
-        rt,
-        timed,
-        Family {
-            name: "grid-thin",
-            rooms: 1,
-            units: Shape::Grid { columns: 6, levels: 4 },
-            bays: Shape::Grid { columns: 8, levels: 8 },
-            strict: false,
-            open: 60,
-        },
-    )?;
-    applications(
-        rt,
-        timed,
-        Family {
-            name: "strict",
-            rooms: 1,
-            units: Shape::Tree { nodes: 24, more: 8 },
-            bays: Shape::Random { nodes: 64, hundredths: 30 },
-            strict: true,
-            open: 100,
-        },
-    )?;
-    applications(
-        rt,
-        timed,
-        Family {
-            name: "strict-thin",
-            rooms: 1,
-            units: Shape::Tree { nodes: 24, more: 8 },
-            bays: Shape::Random { nodes: 64, hundredths: 30 },
-            strict: true,
-            open: 15,
-        },
-    )
-}
+const APPLIED: [Family; 9] = [
+    Family {
+        name: "sparse",
+        rooms: 1,
+        units: Shape::Tree { nodes: 24, more: 8 },
+        bays: Shape::Random { nodes: 64, hundredths: 10 },
+        strict: false,
+        open: 100,
+    },
+    Family {
+        name: "sparse-thin",
+        rooms: 1,
+        units: Shape::Tree { nodes: 24, more: 8 },
+        bays: Shape::Random { nodes: 64, hundredths: 10 },
+        strict: false,
+        open: 30,
+    },
+    Family {
+        name: "dense",
+        rooms: 1,
+        units: Shape::Random { nodes: 24, hundredths: 50 },
+        bays: Shape::Random { nodes: 64, hundredths: 60 },
+        strict: false,
+        open: 100,
+    },
+    Family {
+        name: "dense-thin",
+        rooms: 1,
+        units: Shape::Random { nodes: 24, hundredths: 50 },
+        bays: Shape::Random { nodes: 64, hundredths: 60 },
+        strict: false,
+        open: 15,
+    },
+    Family {
+        name: "wall",
+        rooms: 1,
+        units: Shape::Grid { columns: 6, levels: 4 },
+        bays: Shape::Wall { columns: 8, levels: 8 },
+        strict: false,
+        open: 100,
+    },
+    Family {
+        name: "grid",
+        rooms: 1,
+        units: Shape::Grid { columns: 6, levels: 4 },
+        bays: Shape::Grid { columns: 8, levels: 8 },
+        strict: false,
+        open: 100,
+    },
+    Family {
+        name: "grid-thin",
+        rooms: 1,
+        units: Shape::Grid { columns: 6, levels: 4 },
+        bays: Shape::Grid { columns: 8, levels: 8 },
+        strict: false,
+        open: 60,
+    },
+    Family {
+        name: "strict",
+        rooms: 1,
+        units: Shape::Tree { nodes: 24, more: 8 },
+        bays: Shape::Random { nodes: 64, hundredths: 30 },
+        strict: true,
+        open: 100,
+    },
+    Family {
+        name: "strict-thin",
+        rooms: 1,
+        units: Shape::Tree { nodes: 24, more: 8 },
+        bays: Shape::Random { nodes: 64, hundredths: 30 },
+        strict: true,
+        open: 15,
+    },
+];
 
-// Rooms in which a seek mostly finds a placement.
-fn seek_open(rt: &LibcRuntime, timed: bool) -> io::Result<()> {
-    seeks(
-        rt,
-        timed,
-        Family {
-            name: "sparse",
-            rooms: 8,
-            units: Shape::Tree { nodes: 24, more: 12 },
-            bays: Shape::Random { nodes: 64, hundredths: 15 },
-            strict: false,
-            open: 60,
-        },
-    )?;
-    seeks(
-        rt,
-        timed,
-        Family {
-            name: "dense",
-            rooms: 8,
-            units: Shape::Random { nodes: 24, hundredths: 60 },
-            bays: Shape::Random { nodes: 64, hundredths: 75 },
-            strict: false,
-            open: 90,
-        },
-    )?;
-    seeks(
-        rt,
-        timed,
-        Family {
-            name: "wall",
-            rooms: 6,
-            units: Shape::Grid { columns: 12, levels: 2 },
-            bays: Shape::Wall { columns: 8, levels: 8 },
-            strict: false,
-            open: 70,
-        },
-    )?;
-    seeks(
-        rt,
-        timed,
-        Family {
-            name: "grid",
-            rooms: 6,
-            units: Shape::Grid { columns: 12, levels: 2 },
-            bays: Shape::Grid { columns: 8, levels: 8 },
-            strict: false,
-            open: 70,
-        },
-    )?;
-    seeks(
-        rt,
-        timed,
-        Family {
-            name: "path",
-            rooms: 6,
-            units: Shape::Grid { columns: 20, levels: 1 },
-            bays: Shape::Wall { columns: 8, levels: 8 },
-            strict: false,
-            open: 70,
-        },
-    )
-}
-
-// The same in strict use.
-fn seek_strict(rt: &LibcRuntime, timed: bool) -> io::Result<()> {
-    seeks(
-        rt,
-        timed,
-        Family {
-            name: "strict",
-            rooms: 8,
-            units: Shape::Tree { nodes: 12, more: 4 },
-            bays: Shape::Random { nodes: 64, hundredths: 30 },
-            strict: true,
-            open: 60,
-        },
-    )?;
-    seeks(
-        rt,
-        timed,
-        Family {
-            name: "strict-dense",
-            rooms: 4,
-            units: Shape::Random { nodes: 10, hundredths: 50 },
-            bays: Shape::Random { nodes: 64, hundredths: 50 },
-            strict: true,
-            open: 70,
-        },
-    )
-}
-
-// Rooms without a placement, and random ones near the point where placements become rare.
-fn seek_rare(rt: &LibcRuntime, timed: bool) -> io::Result<()> {
-    seeks(
-        rt,
-        timed,
-        Family {
-            name: "none",
-            rooms: 3,
-            units: Shape::Ring { nodes: 9 },
-            bays: Shape::Wall { columns: 8, levels: 8 },
-            strict: false,
-            open: 90,
-        },
-    )?;
-    seeks(
-        rt,
-        timed,
-        Family {
-            name: "none-dense",
-            rooms: 3,
-            units: Shape::Random { nodes: 9, hundredths: 95 },
-            bays: Shape::Random { nodes: 40, hundredths: 45 },
-            strict: false,
-            open: 100,
-        },
-    )?;
-    seeks(
-        rt,
-        timed,
-        Family {
-            name: "rare",
-            rooms: 8,
-            units: Shape::Random { nodes: 10, hundredths: 60 },
-            bays: Shape::Random { nodes: 40, hundredths: 40 },
-            strict: false,
-            open: 100,
-        },
-    )
-}
+// Rooms in which a seek mostly finds a placement, strict ones, rooms without a placement, and random ones near the point where
+// placements become rare.
+const SOUGHT: [Family; 10] = [
+    Family {
+        name: "sparse",
+        rooms: 8,
+        units: Shape::Tree { nodes: 24, more: 12 },
+        bays: Shape::Random { nodes: 64, hundredths: 15 },
+        strict: false,
+        open: 60,
+    },
+    Family {
+        name: "dense",
+        rooms: 8,
+        units: Shape::Random { nodes: 24, hundredths: 60 },
+        bays: Shape::Random { nodes: 64, hundredths: 75 },
+        strict: false,
+        open: 90,
+    },
+    Family {
+        name: "wall",
+        rooms: 6,
+        units: Shape::Grid { columns: 12, levels: 2 },
+        bays: Shape::Wall { columns: 8, levels: 8 },
+        strict: false,
+        open: 70,
+    },
+    Family {
+        name: "grid",
+        rooms: 6,
+        units: Shape::Grid { columns: 12, levels: 2 },
+        bays: Shape::Grid { columns: 8, levels: 8 },
+        strict: false,
+        open: 70,
+    },
+    Family {
+        name: "path",
+        rooms: 6,
+        units: Shape::Grid { columns: 20, levels: 1 },
+        bays: Shape::Wall { columns: 8, levels: 8 },
+        strict: false,
+        open: 70,
+    },
+    Family {
+        name: "strict",
+        rooms: 8,
+        units: Shape::Tree { nodes: 12, more: 4 },
+        bays: Shape::Random { nodes: 64, hundredths: 30 },
+        strict: true,
+        open: 60,
+    },
+    Family {
+        name: "strict-dense",
+        rooms: 4,
+        units: Shape::Random { nodes: 10, hundredths: 50 },
+        bays: Shape::Random { nodes: 64, hundredths: 50 },
+        strict: true,
+        open: 70,
+    },
+    Family {
+        name: "none",
+        rooms: 3,
+        units: Shape::Ring { nodes: 9 },
+        bays: Shape::Wall { columns: 8, levels: 8 },
+        strict: false,
+        open: 90,
+    },
+    Family {
+        name: "none-dense",
+        rooms: 3,
+        units: Shape::Random { nodes: 9, hundredths: 95 },
+        bays: Shape::Random { nodes: 40, hundredths: 45 },
+        strict: false,
+        open: 100,
+    },
+    Family {
+        name: "rare",
+        rooms: 8,
+        units: Shape::Random { nodes: 10, hundredths: 60 },
+        bays: Shape::Random { nodes: 40, hundredths: 40 },
+        strict: false,
+        open: 100,
+    },
+];
 
 // Whether the word `time` is among the arguments.
 fn wants_time(rt: &LibcRuntime) -> io::Result<bool> {
@@ -267,8 +184,11 @@ fn wants_time(rt: &LibcRuntime) -> io::Result<bool> {
 
 fn main(rt: LibcRuntime) -> io::Result<()> {
     let timed = wants_time(&rt)?;
-    apply_filters(&rt, timed)?;
-    seek_open(&rt, timed)?;
-    seek_strict(&rt, timed)?;
-    seek_rare(&rt, timed)
+    for family in &APPLIED {
+        applications(&rt, timed, family)?;
+    }
+    for family in &SOUGHT {
+        seeks(&rt, timed, family)?;
+    }
+    Ok(())
 }

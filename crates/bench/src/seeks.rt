@@ -116,9 +116,9 @@ fn seek_numbered(rt: &LibcRuntime, timed: bool, family: &Family, number: u64) ->
 }
 
 // A seek in each room of the family.
-pub fn seeks(rt: &LibcRuntime, timed: bool, family: Family) -> io::Result<()> {
+pub fn seeks(rt: &LibcRuntime, timed: bool, family: &Family) -> io::Result<()> {
     for k in 0..family.rooms {
-        seek_numbered(rt, timed, &family, k + 1)?;
+        seek_numbered(rt, timed, family, k + 1)?;
     }
     Ok(())
 }
