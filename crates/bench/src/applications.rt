@@ -90,9 +90,39 @@ fn lines<A: Source, R: Source>(
         first: Degree,
         second: ArcConsistency,
     };
-    line(rt, timed, name, "degree", &Degree, arrangement, room, strict, rows)?;
-    line(rt, timed, name, "arcs", &ArcConsistency, arrangement, room, strict, rows)?;
-    line(rt, timed, name, "both", &both, arrangement, room, strict, rows)
+    line(
+        rt,
+        timed,
+        name,
+        "degree",
+        &Degree,
+        arrangement,
+        room,
+        strict,
+        rows,
+    )?;
+    line(
+        rt,
+        timed,
+        name,
+        "arcs",
+        &ArcConsistency,
+        arrangement,
+        room,
+        strict,
+        rows,
+    )?;
+    line(
+        rt,
+        timed,
+        name,
+        "both",
+        &both,
+        arrangement,
+        room,
+        strict,
+        rows,
+    )
 }
 
 // Each filter in the first room of the family.
@@ -105,11 +135,27 @@ pub fn applications(rt: &LibcRuntime, timed: bool, family: &Family) -> io::Resul
     match family.bays {
         Shape::Wall { columns, levels } => {
             let wall = WallGrid::new(columns, levels);
-            lines(rt, timed, family.name, &arrangement, &wall, family.strict, rows)
+            lines(
+                rt,
+                timed,
+                family.name,
+                &arrangement,
+                &wall,
+                family.strict,
+                rows,
+            )
         }
         _ => {
             let table = JointTable::new(&drawn.bays.rows[0..bays], bays);
-            lines(rt, timed, family.name, &arrangement, &table, family.strict, rows)
+            lines(
+                rt,
+                timed,
+                family.name,
+                &arrangement,
+                &table,
+                family.strict,
+                rows,
+            )
         }
     }
 }
