@@ -1,1 +1,4 @@
-
+pub mod Joints
+pub mod Reading
+pub mod Cards
+pub mod Jobs

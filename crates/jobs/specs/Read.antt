@@ -55,17 +55,21 @@ same-sizes units bays f = eqb (length (f .rows)) units && eqb (f .columns) bays
 abbrev pub struck-part : ℕ → ℕ → Reader Form JobFault
 struck-part units bays = checked (inside plan-part J.Plan) (same-sizes units bays) (λ at. J.Unequal (at + 1))
 
--- the parts of a job, as they stand one behind the other
+-- what stands behind the room: cards, and the plan
+abbrev pub rest-part : (arrangement room : Form) → Reader ((List ℕ × List ℕ) × Form) JobFault
+rest-part arrangement room =
+    after (cards-part (length (arrangement .rows)) (length (room .rows))) (λ _. struck-part (length (arrangement .rows)) (length (room .rows)))
+
+-- what stands behind the arrangement: the room, and the rest
+abbrev pub room-part : (arrangement : Form) → Reader (Form × ((List ℕ × List ℕ) × Form)) JobFault
+room-part arrangement = after joints-part (rest-part arrangement)
+
+-- all parts of a job, as they stand one behind the other
 abbrev pub Parts : Type 0
 Parts = (Mode × Edition) × (Form × (Form × ((List ℕ × List ℕ) × Form)))
 
 abbrev pub parts : Reader Parts JobFault
-parts =
-    after head-part (λ _.
-    after joints-part (λ arrangement.
-    after joints-part (λ room.
-    after (cards-part (length (arrangement .rows)) (length (room .rows))) (λ _.
-    struck-part (length (arrangement .rows)) (length (room .rows))))))
+parts = after head-part (λ _. after joints-part room-part)
 
 abbrev pub formed : Parts → JobForm
 formed p = record {
