@@ -28,7 +28,7 @@ use Rattle.jobs.specs.Head.{mode-byte, known-mode, mode-of, edition-number, kn
 use Rattle.jobs.specs.Form.{JobForm, JobLawful, JointsLawful, KindsLawful, HeightsLawful, StruckLawful, heights-bytes, heights-of, job-bytes}
 use Rattle.jobs.specs.Read.{mode-part, edition-part, head-part, joints-part, kinds-part, heights-part, cards-part, same-sizes, struck-part, rest-part, room-part, Parts, parts, formed, job-part}
 use Rattle.jobs.proofs.Joints.{joint-decides}
-use Rattle.jobs.proofs.Cards.{byte-below, length-heights-bytes, heights-bytes-below, heights-back, length-heights-of, heights-kept, heights-words}
+use Rattle.jobs.proofs.Heights.{byte-below, length-heights-bytes, heights-bytes-below, heights-back, length-heights-of, heights-kept, heights-words}
 
 -- ---- what opens a job
 

@@ -1,4 +1,5 @@
 pub mod Joints
 pub mod Reading
-pub mod Cards
+pub mod Heights
 pub mod Jobs
+pub mod Steps

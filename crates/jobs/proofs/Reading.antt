@@ -2,10 +2,11 @@
 use mathlib.Core.Path.{_≡_, ap, _∙_}
 use mathlib.Core.List.{List}
 use mathlib.Core.Bool.{Bool, true, false, cond}
-use Prim.Native.Nat.{ℕ, _+_, _≤_, _<_}
+use Prim.Native.Nat.{ℕ, _+_, _-_, _≤_, _<_}
 use native.Mathlib.Omega.{arith}
 use lib.Dec.{ltb}
 use lib.ListN.{length, take, drop, length-drop}
+use Rattle.std.proofs.shelf.Lists.{take-rest}
 use Rattle.std.proofs.shelf.Tests.{cond-false, cond-true, le-ltb, lt-ltb}
 use Rattle.std.specs.declared.result.Result.{Result}
 use Rattle.std.specs.declared.result.Result.the-variants.{Ok, Err}
@@ -58,3 +59,7 @@ module _ {E : Type 0} (n : ℕ) (ended : ℕ → E) (input : List ℕ) (at : ℕ
 
   pub bytes-done : at + n ≤ length input → some-bytes n ended input at ≡ Ok (take n (drop at input), at + n)
   bytes-done h = cond-false (ltb (length (drop at input)) n) _ _ (le-ltb (length (drop at input)) n (omega (arith, length-drop at input)))
+
+-- what stands from a place on is as long as the input is from there
+pub length-part : (input : List ℕ) (at : ℕ) → length (take (length input - at) (drop at input)) ≡ length input - at
+length-part input at = ap length (take-rest input at) ∙ length-drop at input

@@ -3,7 +3,7 @@ use mathlib.Core.List.{List}
 use mathlib.Core.Bool.{Bool, _&&_}
 use Prim.Native.Nat.{ℕ, _+_, _*_}
 use lib.Dec.{eqb}
-use lib.ListN.{length, getD}
+use lib.ListN.{length, getD, take}
 use Rattle.std.specs.declared.result.Result.{Result}
 use Rattle.std.specs.declared.result.Result.the-variants.{Ok, Err}
 use Rattle.sources.specs.Faults.{fault-at}
@@ -93,3 +93,13 @@ read-job input = and-then (job-part input 0) (λ p. Ok (p .0))
 abbrev pub seen : {E : Type 0} → Result Job E → Result JobForm E
 seen (Ok j) = Ok (view j)
 seen (Err e) = Err e
+
+-- what was read, with the place behind it
+abbrev pub up-to : {X E : Type 0} → ℕ → Result X E → Result (X × ℕ) E
+up-to next (Ok x) = Ok (x, next)
+up-to next (Err e) = Err e
+
+-- the first n numbers of what was read, with the place behind them
+abbrev pub front : {E : Type 0} → (n next : ℕ) → Result (List ℕ) E → Result (List ℕ × ℕ) E
+front n next (Ok xs) = Ok (take n xs, next)
+front n next (Err e) = Err e

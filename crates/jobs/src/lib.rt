@@ -1,4 +1,5 @@
 // Jobs: reading what a listing is asked for from its bytes.
+mod cards;
 mod fault;
 mod head;
 mod job;
