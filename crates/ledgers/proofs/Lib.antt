@@ -2,3 +2,5 @@ pub mod Finding
 pub mod Verdicts
 pub mod Balance
 pub mod Unique
+pub mod Saving
+pub mod Good

@@ -1,3 +1,4 @@
 pub mod Bounds
 pub mod Refused
 pub mod Step
+pub mod Runs

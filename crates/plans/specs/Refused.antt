@@ -4,7 +4,9 @@ use Rattle.std.specs.declared.result.Result.{Result}
 use Rattle.std.specs.declared.result.Result.the-variants.{Ok, Err}
 use Rattle.refusals.specs.declared.Reason.{Reason}
 use Rattle.refusals.specs.declared.Reason.the-variants as R
-use Rattle.ledgers.specs.Calls.{Answer, done, number, found, yes, none, refused, rule}
+use Rattle.ledgers.specs.Calls.{Answer, done, number, found, yes, none, refused, rule, ill}
+use Rattle.saved.specs.declared.fault.PlanFault.{PlanFault}
+use Rattle.saved.specs.Told.{plan-told}
 use Rattle.plans.specs.declared.refusal.Refusal.{Refusal}
 use Rattle.plans.specs.declared.refusal.Refusal.the-variants.{Sizes, OutOfRange, Standing, CardCount, NoFit, OtherCount, NoLastAnswer, ShortBuffer, NoPlacement, NoRoom}
 
@@ -49,3 +51,7 @@ asking (Err e) = declining e
 abbrev pub saving : Result ℕ Refusal → Answer
 saving (Ok k) = number k
 saving (Err e) = declining e
+
+abbrev pub opening : Result (Unit {0}) PlanFault → Answer
+opening (Ok x) = done
+opening (Err e) = refused (ill (plan-told e))

@@ -18,7 +18,7 @@ use Rattle.search.specs.declared.SearchError.{SearchError}
 use Rattle.search.specs.declared.SearchError.the-variants.{IllShaped, NoPlacement}
 use Rattle.search.specs.Walk.{Setting, Outcome, walk}
 
--- the tries as they are answered
+-- the tries as they are answered: their count stops at 4294967295
 abbrev pub told : ℕ → ℕ
 told n = min n 4294967295
 
@@ -26,10 +26,12 @@ told n = min n 4294967295
 abbrev pub padded : List ℕ → List ℕ
 padded w = w ++ replicate (24 - length w) 0
 
+-- the same of what was found
 abbrev pub padded-found : Option (List ℕ) → Option (List ℕ)
 padded-found (Some w) = Some (padded w)
 padded-found None = None
 
+-- what is answered of a find, or of none, after so many tries
 abbrev pub answer-with : Option (List ℕ) → ℕ → Result Find SearchError
 answer-with (Some w) tries = Ok (record { bays = padded w; tries = told tries })
 answer-with None tries = Err (NoPlacement (told tries))

@@ -22,6 +22,7 @@ pub record Setting : Type 0 where
   pub strict : Bool
   pub filter : Meaning
 
+-- the same from its parts
 abbrev pub setting : Graph → Graph → Bool → Meaning → Setting
 setting a r s f = record { arrangement = a; room = r; strict = s; filter = f }
 
@@ -29,6 +30,7 @@ setting a r s f = record { arrangement = a; room = r; strict = s; filter = f }
 abbrev pub filtered : Setting → List ℕ → List ℕ
 filtered w rows = w .filter (w .arrangement) (w .room) (w .strict) rows
 
+-- some row is empty
 abbrev pub any-empty : List ℕ → Bool
 any-empty rows = ltb 0 (empty-count rows)
 
@@ -37,6 +39,7 @@ abbrev pub narrowed-row : Graph → Graph → Bool → ℕ → ℕ → List ℕ 
 narrowed-row a r s u b rows v =
     cond (ltb v u) (getD rows v 0) (cond (eqb v u) (2 ^ b) (bitAnd (getD rows v 0) (row-of (r .count) (λ c. agrees a r s u b v c))))
 
+-- all rows, each so narrowed
 abbrev pub narrowed : Graph → Graph → Bool → ℕ → ℕ → List ℕ → List ℕ
 narrowed a r s u b rows = map (narrowed-row a r s u b rows) (counting 0 (length rows))
 
@@ -54,6 +57,7 @@ pub record Outcome : Type 0 where
   pub found : Option (List ℕ)
   pub tries : ℕ
 
+-- nothing was found in n tries
 abbrev pub nothing : ℕ → Outcome
 nothing n = record { found = None; tries = n }
 

@@ -1,10 +1,15 @@
 // The calls that need no search.
 ghost use mathlib.Core.Path.{_≡_};
+ghost use mathlib.Core.Bool.{cond};
 ghost use mathlib.Core.List.{[]};
+ghost use Prim.Native.Nat.{ℕ};
+ghost use lib.Dec.{ltb};
+ghost use lib.ListN.{getD};
 ghost use Rattle.books.specs.Fit.{handed};
 ghost use Rattle.ledgers.specs.Calls.{begin, «open», strike, free, fit, fit-further, tally, save, number};
-ghost use Rattle.plans.specs.Refused.{doing};
+ghost use Rattle.plans.specs.Refused.{doing, saving, opening};
 ghost use Rattle.plans.specs.Step.{Step, Shows, Fresh, turn};
+ghost use Rattle.plans.specs.Runs.{Law};
 use crate::plan::Plan;
 use crate::refusal::Refusal;
 use books::Book;
@@ -12,11 +17,29 @@ use books::suited_rows;
 use graphs::holds;
 use graphs::pairs::common;
 use graphs::pairs::total;
+use saved::PlanFault;
+use saved::read_plan;
+use saved::save_plan;
+use tables::Table;
+
+// The first 24 rows, with zeros behind them.
+fn front_rows(rows: &[u64]) -> [u64; 24]
+    ensures { λ r. ⌜ ((u : ℕ) → getD r u 0 ≡ cond (ltb u 24) (getD (now (rows .entry)) u 0) 0) ⌝ }
+{
+    let mut front = [0; 24];
+    for i in 0..24 {
+        if i < rows.len() {
+            front[i] = rows[i];
+        }
+    }
+    front
+}
 
 impl Plan {
     // A plan of one unit and one bay.
     pub fn new() -> Plan
         ensures fresh { λ r. ⌜ Fresh r ⌝ }
+        ensures law { λ _. ⌜ Law ⌝ }
     {
         Plan { units: 1, bays: 1, struck: [0; 24], fit: false, fitted: [0; 24], last: None }
     }
@@ -30,6 +53,31 @@ impl Plan {
         }
         *self = Plan { units, bays, struck: [0; 24], fit: false, fitted: [0; 24], last: None };
         Ok(())
+    }
+
+    // Starts the plan over with the pairs struck that the saved bytes name.
+    pub fn open(&mut self, bytes: &[u8]) -> Result<(), PlanFault>
+        ensures step { λ r. ⌜ Step (now (self .entry)) (turn («open» (now (bytes .entry))) (opening r) []) (now (self .exit)) ⌝ }
+        ensures shows { λ _. ⌜ Shows («open» (now (bytes .entry))) ⌝ }
+    {
+        let table = read_plan(bytes, 0)?;
+        let units = table.rows().len();
+        let bays = table.columns();
+        let struck = front_rows(table.rows());
+        *self = Plan { units, bays, struck, fit: false, fitted: [0; 24], last: None };
+        Ok(())
+    }
+
+    // Writes the saved form of the sizes and the strikes, and answers its length.
+    pub fn save(&self, out: &mut [u8]) -> Result<usize, Refusal>
+        ensures { λ r. ⌜ Step (now (self .entry)) (turn (save (now (out .entry))) (saving r) (now (out .exit))) (now (self .entry)) ⌝ }
+    {
+        let units = self.units;
+        let table = Table::from_rows(self.bays, &self.struck[0..units]);
+        match save_plan(&table, out) {
+            Ok(len) => Ok(len),
+            Err(_) => Err(Refusal::NoRoom),
+        }
     }
 
     // Strikes a pair.
