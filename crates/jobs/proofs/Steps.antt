@@ -17,8 +17,9 @@ use Rattle.jobs.specs.declared.fault.JobFault.{JobFault}
 use Rattle.jobs.specs.declared.fault.JobFault.the-variants as J
 use Rattle.jobs.specs.declared.head.Mode.{Mode}
 use Rattle.jobs.specs.declared.head.Edition.{Edition}
-use Rattle.jobs.specs.Form.{JobForm}
-use Rattle.jobs.specs.Read.{head-part, joints-part, kinds-part, heights-part, cards-part, same-sizes, struck-part, rest-part, room-part, parts, formed, read-job}
+use Rattle.jobs.specs.Form.{JobForm, JobLawful}
+use Rattle.jobs.specs.Read.{head-part, joints-part, kinds-part, heights-part, cards-part, same-sizes, struck-part, rest-part, room-part, parts, formed, job-part, read-job}
+use Rattle.jobs.proofs.Jobs.{job-exact}
 use Rattle.jobs.proofs.Reading.{after-fails, then-fails, then-done, checked-fails, checked-not, checked-done, inside-fails, inside-done, turned-fails, turned-done}
 
 -- ---- a plan's answer, with the place behind it
@@ -37,6 +38,12 @@ plan-behind input at f B h =
     let p = dropped-ok (plan-part input at) f h in
     let g = plan-exact .only input at B f (p .0) (p .1) in
     g .form ∙ ap (λ t. plan-bytes f ++ t) (g .follows) ∙ append-nil (plan-bytes f)
+
+-- what is read is lawful
+pub job-lawful : (input : List ℕ) (j : JobForm) → Bytes input → Ok j ≡ read-job input → JobLawful j
+job-lawful input j B h =
+    let p = dropped-ok (job-part input 0) j h in
+    job-exact .only input 0 B j (p .0) (p .1) .lawful
 
 -- ---- the cards and the plan, at as many units and bays
 

@@ -1,5 +1,5 @@
 -- What opens a job, as bytes. Assumes nothing.
-use mathlib.Core.Bool.{Bool, cond, _&&_}
+use mathlib.Core.Bool.{Bool, true, false, cond, _&&_}
 use mathlib.Core.List.{List, [], _∷_}
 use Prim.Native.Nat.{ℕ, zero, suc}
 use lib.Dec.{eqb, leb}
@@ -8,6 +8,11 @@ use Rattle.jobs.specs.declared.head.Mode.{Mode}
 use Rattle.jobs.specs.declared.head.Mode.the-variants.{Open, Strict}
 use Rattle.jobs.specs.declared.head.Edition.{Edition}
 use Rattle.jobs.specs.declared.head.Edition.the-variants.{One, Two}
+
+-- whether units that are not joined must stand on bays that are not joined
+abbrev pub is-strict : Mode → Bool
+is-strict Open = false
+is-strict Strict = true
 
 -- the strictness byte
 abbrev pub mode-byte : Mode → ℕ

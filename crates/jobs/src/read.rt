@@ -118,6 +118,7 @@ fn sizes_match(struck: &Table, units: usize, bays: usize) -> bool
 // The job that the whole input holds.
 pub fn read_job(input: &[u8]) -> Result<Job, JobFault>
     ensures value { λ r. ⌜ seen r ≡ read-job (now (input .entry)) ⌝ }
+    ensures lawful { λ r. ⌜ made r (λ j. JobLawful (view j)) ⌝ }
     ensures plan { λ r. ⌜ made r (λ j. drop (j .«plan_at») (now (input .entry)) ≡ plan-bytes (view j .struck)) ⌝ }
     ensures exact { λ _. ⌜ Exact JobLawful Nothing job-part job-bytes ⌝ }
 {

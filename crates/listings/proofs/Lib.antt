@@ -1,0 +1,5 @@
+pub mod Writing
+pub mod Order
+pub mod Carding
+pub mod Opening
+pub mod Going
