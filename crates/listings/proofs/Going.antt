@@ -91,9 +91,6 @@ module _ (j : JobForm) (law : JobLawful j) (s : Setting) (ea : s .arrangement �
 
   -- ---- what the plan looks for is what the job asks for
 
-  open-of : Pairs
-  open-of = open-pairs (fitted-ledger j None)
-
   placed : (w : List ℕ) → Placement (s .arrangement) (s .room) (s .strict) w → Placement (arrangement-of j) (room-of j) (is-strict (j .mode)) w
   placed w h =
       subst (λ (b : Bool). Placement (arrangement-of j) (room-of j) b w) es
@@ -126,3 +123,76 @@ module _ (j : JobForm) (law : JobLawful j) (s : Setting) (ea : s .arrangement �
             (parts .1);
         after = a;
       }
+
+  -- ---- what a search that is not declined finds
+
+  module _ (x o : Option (List ℕ)) (c : Call) (out out′ : List ℕ) (r : Result ℕ Refusal) (p q : Plan)
+      (is : view p ≡ fitted-ledger j x) (ok : verdict (fitted-ledger j x) c ≡ accepted)
+      (asks : (a : Answer) (b : List ℕ) → Answered (fitted-ledger j x) c a b → Finds (fitted-ledger j x) s o out a b)
+      (makes : made (fitted-ledger j x) c ≡ with-find (fitted-ledger j x) (find-in (fitted-ledger j x) s o))
+      (step : Step p (turn c (finding r) out′) q)
+    where
+    finds : Finds (fitted-ledger j x) s o out (finding r) out′
+    finds = asks (finding r) out′ (judged (fitted-ledger j x) c (finding r) out′ ok (subst (λ (l : Ledger). Right l c (finding r) out′) is (step .right)))
+
+    holds : view q ≡ with-find (fitted-ledger j x) (find-in (fitted-ledger j x) s o)
+    holds = step .holds ∙ ap (λ l. after l c) is ∙ ap (λ v. by-verdict v (made (fitted-ledger j x) c) (fitted-ledger j x)) ok ∙ makes
+
+    looked : Answers (Wanted s (open-pairs (fitted-ledger j None)) o) (find-in (fitted-ledger j x) s o)
+    looked = find-wanted s (open-pairs (fitted-ledger j None)) o m (j .struck .columns) units bays
+
+    -- the find at k, where the first wanted stands there in the list
+    module _ (k : ℕ) (room : length out ≡ 24)
+        (first : (w : List ℕ) → IsFirst (Wanted s (open-pairs (fitted-ledger j None)) o) w → (k < length (all j)) × (w ≡ getD (all j) k []))
+        (nothing : ((w : List ℕ) → Wanted s (open-pairs (fitted-ledger j None)) o w → ⊥) → length (all j) ≤ k)
+      where
+      pub stands : At j k (isOk r) out′ q
+      stands = elim finds [
+        | inl h ↦ came (h .0) (h .1) (found-ok r ∙ ap is-found (h .2)) (h .3)
+        | inr h ↦ ended (h .0) (found-ok r ∙ ap is-found (h .1)) (h .2)
+      ]
+        where
+          came : (w : List ℕ) → IsFirst (Wanted s (open-pairs (fitted-ledger j None)) o) w → isOk r ≡ true → out′ ≡ over w out → At j k (isOk r) out′ q
+          came w f t b =
+              let there = first w f in
+              let whole : length w ≡ m = f .holds .placed .whole ∙ units in
+              let few : m ≤ 24 = law .struck .plan .few-units in
+              record {
+                long = omega (arith, ap length b, length-append w (drop (length w) out), length-drop (length w) out);
+                listed = λ _. there .0;
+                here = λ _. ap (take m) b ∙ take-at w (drop (length w) out) m whole ∙ there .1;
+                last = λ _. holds ∙ ap (with-find (fitted-ledger j x)) (answers-unique (Wanted s (open-pairs (fitted-ledger j None)) o) (find-in (fitted-ledger j x) s o) (Some w) looked f) ∙ ap (λ v. fitted-ledger j (Some v)) (there .1);
+                past = λ e. absurd (both-ways (isOk r) e t);
+              }
+
+          ended : ((w : List ℕ) → Wanted s (open-pairs (fitted-ledger j None)) o w → ⊥) → isOk r ≡ false → out′ ≡ out → At j k (isOk r) out′ q
+          ended no-one f b =
+              record {
+                long = ap length b ∙ room;
+                listed = λ t. absurd (both-ways (isOk r) f t);
+                here = λ t. absurd (both-ways (isOk r) f t);
+                last = λ t. absurd (both-ways (isOk r) f t);
+                past = λ _. nothing no-one;
+              }
+
+  enough : (out : List ℕ) → length out ≡ 24 → ltb (length out) m ≡ false
+  enough out e = le-ltb (length out) m (omega (arith, law .struck .plan .few-units))
+
+  module _ (out out′ : List ℕ) (r : Result ℕ Refusal) (p q : Plan) (long : length out ≡ 24) where
+    pub seek-at : view p ≡ fitted-ledger j None → Step p (turn (seek s out) (finding r) out′) q → At j 0 (isOk r) out′ q
+    seek-at is step =
+        stands None None (seek s out) out out′ r p q is
+        (ap₂ (λ x y. unless R.OtherCount x (unless R.ShortBuffer y accepted)) (counts None) (enough out long))
+        (λ a b h. h) refl step 0 long
+        (λ w f. first-listed (Suited j) (all j) (all-lists j) w (record { holds = suited None w (f .holds); least = λ v h. f .least v (wanted None v h tt) }))
+        (λ no-one. none-listed (Suited j) (all j) (all-lists j) (λ w h. no-one w (wanted None w h tt)))
+
+    pub further-at : (k : ℕ) → k < length (all j) → view p ≡ fitted-ledger j (Some (getD (all j) k [])) → Step p (turn (further s out) (finding r) out′) q → At j (k + 1) (isOk r) out′ q
+    further-at k l is step =
+        let v : List ℕ = getD (all j) k [] in
+        stands (Some v) (Some v) (further s out) out out′ r p q is
+        (ap₂ (λ x y. unless R.OtherCount x (unless R.ShortBuffer y accepted)) (counts (Some v)) (enough out long))
+        (λ a b h. h) refl step (k + 1) long
+        (λ w f. next-listed (Suited j) (all j) (all-lists j) k l w
+        (record { holds = (suited (Some v) w (f .holds), f .holds .after); least = λ x h. f .least x (wanted (Some v) x (h .0) (h .1)) }))
+        (λ no-one. none-later (Suited j) (all j) (all-lists j) k l (λ w h. no-one w (wanted (Some v) w (h .0) (h .1))))

@@ -35,7 +35,8 @@ pub extern "C" fn planbench_job(input: &[u8], output: &mut [u8]) -> JobAnswer
     }
     let written = match read_job(input) {
         Ok(job) => {
-            let plan = fitted_plan(&job, &input[job.plan_at..]);
+            let plan_at = job.plan_at;
+            let plan = fitted_plan(&job, &input[plan_at..]);
             write_listing(output, plan, &job)
         }
         Err(fault) => write_refusal(output, fault.told()),
