@@ -25,6 +25,7 @@ const ROOM: usize = 1536;
 pub extern "C" fn planbench_job(input: &[u8], output: &mut [u8]) -> JobAnswer
     ensures short { λ r. ⌜ (length (now (output .entry)) < 1536 → Declined (now (output .entry)) (now (output .exit)) r) ⌝ }
     ensures enough { λ r. ⌜ (1536 ≤ length (now (output .entry)) → Answered (now (input .entry)) (now (output .entry)) (now (output .exit)) r) ⌝ }
+    ensures within { λ r. ⌜ r .written ≤ 1536 ⌝ }
     ensures one_text { λ _. ⌜ OneText ⌝ }
 {
     if output.len() < ROOM {

@@ -29,7 +29,8 @@ const MOST: usize = 20;
 // Whether there are further placements, behind those that are listed.
 fn write_last(out: &mut [u8], at: usize, further: bool) -> usize
     requires { ⌜ at + 5 ≤ length (now out) ⌝ }
-    ensures { λ r. ⌜ Wrote (cond further (codes "more\n") (codes "end\n")) at (now (out .entry)) (now (out .exit)) r ⌝ }
+    ensures near { λ r. ⌜ r ≤ at + 5 ⌝ }
+    ensures wrote { λ r. ⌜ Wrote (cond further (codes "more\n") (codes "end\n")) at (now (out .entry)) (now (out .exit)) r ⌝ }
 {
     if further {
         write_bytes(out, at, b"more\n")
@@ -42,7 +43,8 @@ pub(crate) fn write_listing(out: &mut [u8], mut plan: Plan, job: &Job) -> usize
     requires room { ⌜ 1536 ≤ length (now out) ⌝ }
     requires lawful { ⌜ JobLawful (form (now job)) ⌝ }
     requires fitted { ⌜ held plan ≡ fitted-ledger (form (now job)) None ⌝ }
-    ensures { λ r. ⌜ Wrote-listing (form (now (job .entry))) (now (out .entry)) (now (out .exit)) r ⌝ }
+    ensures near { λ r. ⌜ r ≤ 1536 ⌝ }
+    ensures listing { λ r. ⌜ Wrote-listing (form (now (job .entry))) (now (out .entry)) (now (out .exit)) r ⌝ }
 {
     let arrangement = JointTable::new(job.arrangement.rows(), job.arrangement.columns());
     let room = JointTable::new(job.room.rows(), job.room.columns());

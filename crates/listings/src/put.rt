@@ -61,7 +61,8 @@ pub(crate) fn write_line(out: &mut [u8], at: usize, bays: &[u8]) -> usize
 // The line of a refusal.
 pub(crate) fn write_refusal(out: &mut [u8], told: Told) -> usize
     requires { ⌜ 1536 ≤ length (now out) ⌝ }
-    ensures { λ r. ⌜ Wrote (refusal-text told) 0 (now (out .entry)) (now (out .exit)) r ⌝ }
+    ensures near { λ r. ⌜ r ≤ 1536 ⌝ }
+    ensures wrote { λ r. ⌜ Wrote (refusal-text told) 0 (now (out .entry)) (now (out .exit)) r ⌝ }
 {
     let word = write_bytes(out, 0, b"refused ");
     let number = write_number(out, word, usize::from(told.reason.number()));

@@ -11,6 +11,7 @@ returns-then-output-lt-ROOM c =
     record {
       short = λ _. record { number = c .from .ensures ∙ c .number .ensures; length-none = refl; buffer = refl };
       enough = λ h. absurd (omega (arith, c .if-output-lt-ROOM .taken));
+      within = omega arith;
       one-text = one-text;
     }
 
@@ -28,7 +29,8 @@ pub returns-in-Ok : need.returns-in-Ok
 returns-in-Ok c =
     record {
       short = λ h. absurd (omega (arith, c .if-output-lt-ROOM .left));
-      enough = λ _. answer-listed _ _ _ _ _ (c .in-Ok .ensures tt .value) (c .write-listing-written .ensures);
+      enough = λ _. answer-listed _ _ _ _ _ (c .in-Ok .ensures tt .value) (c .write-listing-written .ensures .listing);
+      within = c .write-listing-written .ensures .near;
       one-text = one-text;
     }
 
@@ -36,6 +38,7 @@ pub returns-in-Err : need.returns-in-Err
 returns-in-Err c =
     record {
       short = λ h. absurd (omega (arith, c .if-output-lt-ROOM .left));
-      enough = λ _. answer-refused _ _ _ _ _ (c .in-Err .ensures tt .value) (wrote-same (ap refusal-text (c .told .ensures)) (c .write-refusal-written .ensures));
+      enough = λ _. answer-refused _ _ _ _ _ (c .in-Err .ensures tt .value) (wrote-same (ap refusal-text (c .told .ensures)) (c .write-refusal-written .ensures .wrote));
+      within = c .write-refusal-written .ensures .near;
       one-text = one-text;
     }

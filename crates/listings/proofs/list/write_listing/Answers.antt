@@ -67,4 +67,8 @@ returns c =
           | then-loop-found-test·else-listed-lt-MOST w ↦ and-right _ _ (le-ltb (c .loop-found .listed) 20 (w .if-listed-lt-MOST .left))
           | else-loop-found-test w ↦ and-left _ _ (w .loop-found-test .left)
         ] in
-    written-all (view (c .args .job .now)) (c .pre .lawful) (c .loop-found .inv) _ _ stops (c .write-last .ensures)
+    let g = c .loop-found .inv in
+    record {
+      near = omega (arith, near (view (c .args .job .now)) (c .pre .lawful) g, g .few, c .write-last .ensures .near);
+      listing = written-all (view (c .args .job .now)) (c .pre .lawful) g _ _ stops (c .write-last .ensures .wrote);
+    }

@@ -25,8 +25,11 @@ write-bytes-requires c κs = omega (arith, c .pre, c .write-bytes-word .ensures 
 
 pub returns : need.returns
 returns c =
-    then (c .write-bytes-word .ensures)
-    (then (wrote-same (ap decimal (c .from .ensures ∙ c .number .ensures)) (c .write-number-number .ensures .wrote))
-    (then (c .write-bytes-gap .ensures)
-    (then (wrote-same (ap decimal (c .from-2 .ensures)) (c .write-number-layer .ensures .wrote))
-    (then (c .write-bytes-gap-2 .ensures) (then (c .write-number-place .ensures .wrote) (c .write-bytes .ensures))))))
+    record {
+      near = omega (arith, c .pre, c .write-bytes-word .ensures .place, c .write-number-number .ensures .near, c .write-bytes-gap .ensures .place, c .write-number-layer .ensures .near, c .write-bytes-gap-2 .ensures .place, c .write-number-place .ensures .near, c .write-bytes .ensures .place);
+      wrote = then (c .write-bytes-word .ensures)
+          (then (wrote-same (ap decimal (c .from .ensures ∙ c .number .ensures)) (c .write-number-number .ensures .wrote))
+          (then (c .write-bytes-gap .ensures)
+          (then (wrote-same (ap decimal (c .from-2 .ensures)) (c .write-number-layer .ensures .wrote))
+          (then (c .write-bytes-gap-2 .ensures) (then (c .write-number-place .ensures .wrote) (c .write-bytes .ensures))))));
+    }
