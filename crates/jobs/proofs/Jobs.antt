@@ -154,21 +154,31 @@ pub job-exact : Exact JobLawful Nothing job-part job-bytes
 job-exact = turned-exact formed unformed to from parts-exact
   where
     to : (p : Parts) → Whole p → (unformed (formed p) ≡ p) × JobLawful (formed p)
-    to p l =
-        (refl,
-         record {
-           arrangement = tested-from (p .1 .0) (l .1 .0);
-           room = tested-from (p .1 .1 .0) (l .1 .1 .0);
-           kinds = record { count = l .1 .1 .1 .0 .0 .0; bytes = l .1 .1 .1 .0 .0 .1 };
-           heights = l .1 .1 .1 .0 .1;
-           struck = sizes-from _ _ (p .1 .1 .1 .1) (l .1 .1 .1 .1);
-         })
+    to p l = (
+      refl,
+      record {
+        arrangement = tested-from (p .1 .0) (l .1 .0);
+        room = tested-from (p .1 .1 .0) (l .1 .1 .0);
+        kinds = record { count = l .1 .1 .1 .0 .0 .0; bytes = l .1 .1 .1 .0 .0 .1 };
+        heights = l .1 .1 .1 .0 .1;
+        struck = sizes-from _ _ (p .1 .1 .1 .1) (l .1 .1 .1 .1);
+      },
+    )
 
     from : (j : JobForm) → JobLawful j → (formed (unformed j) ≡ j) × Whole (unformed j)
-    from j l =
-        (refl,
-         ((tt, tt),
-          (tested-to (j .arrangement) (l .arrangement),
-           (tested-to (j .room) (l .room),
-            (((l .kinds .count, l .kinds .bytes), l .heights),
-             (l .struck .plan, sizes-true _ _ (j .struck) (l .struck)))))))
+    from j l = (
+      refl,
+      (
+        (tt, tt),
+        (
+          tested-to (j .arrangement) (l .arrangement),
+          (
+            tested-to (j .room) (l .room),
+            (
+              ((l .kinds .count, l .kinds .bytes), l .heights),
+              (l .struck .plan, sizes-true _ _ (j .struck) (l .struck)),
+            ),
+          ),
+        ),
+      ),
+    )

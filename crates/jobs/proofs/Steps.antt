@@ -77,11 +77,12 @@ module _ (input : List ℕ) (at units bays : ℕ) where
 
         pub rest-done : same-sizes units bays f ≡ true → (next : ℕ) × (rest units bays input at ≡ Ok (((kinds, heights), f), next))
         rest-done s =
-            let r = dropped-ok (plan-part input (at + units + 2 * bays)) f p in
-            (r .0,
-             then-done (cards-part units bays) (λ _. struck-part units bays) input at cards
-             (checked-done (inside plan-part J.Plan) input (at + units + 2 * bays) (same-sizes units bays) (λ at. J.Unequal (at + 1))
-             (inside-done plan-part input (at + units + 2 * bays) J.Plan (r .1)) s))
+            let r = dropped-ok (plan-part input (at + units + 2 * bays)) f p in (
+              r .0,
+              then-done (cards-part units bays) (λ _. struck-part units bays) input at cards
+                  (checked-done (inside plan-part J.Plan) input (at + units + 2 * bays) (same-sizes units bays) (λ at. J.Unequal (at + 1))
+                  (inside-done plan-part input (at + units + 2 * bays) J.Plan (r .1)) s),
+            )
 
 -- ---- the whole
 
@@ -107,15 +108,15 @@ module _ (input : List ℕ) where
         pub rest-fails : (e : JobFault) → rest units bays input at ≡ Err e → Err e ≡ read-job input
         rest-fails e t =
             let here : rest-part a r input at ≡ Err e =
-                subst (λ (n : ℕ). rest (length (a .rows)) n input at ≡ Err e) eb (subst (λ (m : ℕ). rest m bays input at ≡ Err e) eu t) in
+            subst (λ (n : ℕ). rest (length (a .rows)) n input at ≡ Err e) eb (subst (λ (m : ℕ). rest m bays input at ≡ Err e) eu t) in
             tables-fail e (then-fails joints-part room-part input 3 (sym ha) (then-fails joints-part (rest-part a) input room-at (sym hr) here))
 
         pub job-done : (kinds heights : List ℕ) (f : Form) (next : ℕ) → rest units bays input at ≡ Ok (((take units kinds, take bays heights), f), next)
             → Ok (record { mode = head .0; edition = head .1; arrangement = a; room = r; kinds = take (length (a .rows)) kinds; heights = take (length (r .rows)) heights; struck = f }) ≡ read-job input
         job-done kinds heights f next t =
             let here : rest-part a r input at ≡ Ok (((take (length (a .rows)) kinds, take (length (r .rows)) heights), f), next) =
-                subst (λ (n : ℕ). rest (length (a .rows)) n input at ≡ Ok (((take (length (a .rows)) kinds, take n heights), f), next)) eb
-                (subst (λ (m : ℕ). rest m bays input at ≡ Ok (((take m kinds, take bays heights), f), next)) eu t) in
+            subst (λ (n : ℕ). rest (length (a .rows)) n input at ≡ Ok (((take (length (a .rows)) kinds, take n heights), f), next)) eb
+            (subst (λ (m : ℕ). rest m bays input at ≡ Ok (((take m kinds, take bays heights), f), next)) eu t) in
             sym (ap (λ r. and-then {Y = JobForm} r (λ p. Ok (p .0)))
             (turned-done parts input 0 formed
             (then-done head-part (λ _. after joints-part room-part) input 0 (sym h)

@@ -2,7 +2,6 @@ ghost use mathlib.Core.Path.{_≡_};
 ghost use Rattle.refusals.specs.Numbers.{told};
 ghost use Rattle.jobs.specs.Told.{job-told};
 ghost use Rattle.jobs.specs.declared.fault.JobFault.the-variants.{Table as InTable, Plan as InPlan};
-
 use refusals::Reason;
 use refusals::Told;
 use saved::PlanFault;

@@ -132,48 +132,48 @@ module _ (j : JobForm) (law : JobLawful j) (s : Setting) (ea : s .arrangement �
       (makes : made (fitted-ledger j x) c ≡ with-find (fitted-ledger j x) (find-in (fitted-ledger j x) s o))
       (step : Step p (turn c (finding r) out′) q)
     where
-    finds : Finds (fitted-ledger j x) s o out (finding r) out′
-    finds = asks (finding r) out′ (judged (fitted-ledger j x) c (finding r) out′ ok (subst (λ (l : Ledger). Right l c (finding r) out′) is (step .right)))
+      finds : Finds (fitted-ledger j x) s o out (finding r) out′
+      finds = asks (finding r) out′ (judged (fitted-ledger j x) c (finding r) out′ ok (subst (λ (l : Ledger). Right l c (finding r) out′) is (step .right)))
 
-    holds : view q ≡ with-find (fitted-ledger j x) (find-in (fitted-ledger j x) s o)
-    holds = step .holds ∙ ap (λ l. after l c) is ∙ ap (λ v. by-verdict v (made (fitted-ledger j x) c) (fitted-ledger j x)) ok ∙ makes
+      holds : view q ≡ with-find (fitted-ledger j x) (find-in (fitted-ledger j x) s o)
+      holds = step .holds ∙ ap (λ l. after l c) is ∙ ap (λ v. by-verdict v (made (fitted-ledger j x) c) (fitted-ledger j x)) ok ∙ makes
 
-    looked : Answers (Wanted s (open-pairs (fitted-ledger j None)) o) (find-in (fitted-ledger j x) s o)
-    looked = find-wanted s (open-pairs (fitted-ledger j None)) o m (j .struck .columns) units bays
+      looked : Answers (Wanted s (open-pairs (fitted-ledger j None)) o) (find-in (fitted-ledger j x) s o)
+      looked = find-wanted s (open-pairs (fitted-ledger j None)) o m (j .struck .columns) units bays
 
-    -- the find at k, where the first wanted stands there in the list
-    module _ (k : ℕ) (room : length out ≡ 24)
-        (first : (w : List ℕ) → IsFirst (Wanted s (open-pairs (fitted-ledger j None)) o) w → (k < length (all j)) × (w ≡ getD (all j) k []))
-        (nothing : ((w : List ℕ) → Wanted s (open-pairs (fitted-ledger j None)) o w → ⊥) → length (all j) ≤ k)
-      where
-      pub stands : At j k (isOk r) out′ q
-      stands = elim finds [
-        | inl h ↦ came (h .0) (h .1) (found-ok r ∙ ap is-found (h .2)) (h .3)
-        | inr h ↦ ended (h .0) (found-ok r ∙ ap is-found (h .1)) (h .2)
-      ]
+      -- the find at k, where the first wanted stands there in the list
+      module _ (k : ℕ) (room : length out ≡ 24)
+          (first : (w : List ℕ) → IsFirst (Wanted s (open-pairs (fitted-ledger j None)) o) w → (k < length (all j)) × (w ≡ getD (all j) k []))
+          (nothing : ((w : List ℕ) → Wanted s (open-pairs (fitted-ledger j None)) o w → ⊥) → length (all j) ≤ k)
         where
-          came : (w : List ℕ) → IsFirst (Wanted s (open-pairs (fitted-ledger j None)) o) w → isOk r ≡ true → out′ ≡ over w out → At j k (isOk r) out′ q
-          came w f t b =
-              let there = first w f in
-              let whole : length w ≡ m = f .holds .placed .whole ∙ units in
-              let few : m ≤ 24 = law .struck .plan .few-units in
-              record {
-                long = omega (arith, ap length b, length-append w (drop (length w) out), length-drop (length w) out);
-                listed = λ _. there .0;
-                here = λ _. ap (take m) b ∙ take-at w (drop (length w) out) m whole ∙ there .1;
-                last = λ _. holds ∙ ap (with-find (fitted-ledger j x)) (answers-unique (Wanted s (open-pairs (fitted-ledger j None)) o) (find-in (fitted-ledger j x) s o) (Some w) looked f) ∙ ap (λ v. fitted-ledger j (Some v)) (there .1);
-                past = λ e. absurd (both-ways (isOk r) e t);
-              }
+          pub stands : At j k (isOk r) out′ q
+          stands = elim finds [
+            | inl h ↦ came (h .0) (h .1) (found-ok r ∙ ap is-found (h .2)) (h .3)
+            | inr h ↦ ended (h .0) (found-ok r ∙ ap is-found (h .1)) (h .2)
+          ]
+            where
+              came : (w : List ℕ) → IsFirst (Wanted s (open-pairs (fitted-ledger j None)) o) w → isOk r ≡ true → out′ ≡ over w out → At j k (isOk r) out′ q
+              came w f t b =
+                  let there = first w f in
+                  let whole : length w ≡ m = f .holds .placed .whole ∙ units in
+                  let few : m ≤ 24 = law .struck .plan .few-units in
+                  record {
+                    long = omega (arith, ap length b, length-append w (drop (length w) out), length-drop (length w) out);
+                    listed = λ _. there .0;
+                    here = λ _. ap (take m) b ∙ take-at w (drop (length w) out) m whole ∙ there .1;
+                    last = λ _. holds ∙ ap (with-find (fitted-ledger j x)) (answers-unique (Wanted s (open-pairs (fitted-ledger j None)) o) (find-in (fitted-ledger j x) s o) (Some w) looked f) ∙ ap (λ v. fitted-ledger j (Some v)) (there .1);
+                    past = λ e. absurd (both-ways (isOk r) e t);
+                  }
 
-          ended : ((w : List ℕ) → Wanted s (open-pairs (fitted-ledger j None)) o w → ⊥) → isOk r ≡ false → out′ ≡ out → At j k (isOk r) out′ q
-          ended no-one f b =
-              record {
-                long = ap length b ∙ room;
-                listed = λ t. absurd (both-ways (isOk r) f t);
-                here = λ t. absurd (both-ways (isOk r) f t);
-                last = λ t. absurd (both-ways (isOk r) f t);
-                past = λ _. nothing no-one;
-              }
+              ended : ((w : List ℕ) → Wanted s (open-pairs (fitted-ledger j None)) o w → ⊥) → isOk r ≡ false → out′ ≡ out → At j k (isOk r) out′ q
+              ended no-one f b =
+                  record {
+                    long = ap length b ∙ room;
+                    listed = λ t. absurd (both-ways (isOk r) f t);
+                    here = λ t. absurd (both-ways (isOk r) f t);
+                    last = λ t. absurd (both-ways (isOk r) f t);
+                    past = λ _. nothing no-one;
+                  }
 
   enough : (out : List ℕ) → length out ≡ 24 → ltb (length out) m ≡ false
   enough out e = le-ltb (length out) m (omega (arith, law .struck .plan .few-units))

@@ -16,16 +16,17 @@ module _ (P : List ℕ → Type 0) (all : List (List ℕ)) (l : Lists P all) whe
   pub first-listed : (w : List ℕ) → IsFirst P w → (0 < length all) × (w ≡ getD all 0 [])
   first-listed w f =
       let at = l .complete w (f .holds) in
-      let some : 0 < length all = omega (arith, at .1) in
-      (some,
-       elim (f .least (getD all 0 []) (l .sound 0 some)) [
-         | inl e ↦ e
-         | inr b ↦ elim (cases-order 0 (at .0)) [
-           | inl z ↦ sym (at .2) ∙ ap (λ i. getD all i []) (sym z)
-           | inr (inl h) ↦ absurd (before-asymmetric w (getD all 0 []) b (subst (Before (getD all 0 [])) (at .2) (l .rising 0 (at .0) h (at .1))))
-           | inr (inr h) ↦ absurd (omega arith)
-         ]
-       ])
+      let some : 0 < length all = omega (arith, at .1) in (
+        some,
+        elim (f .least (getD all 0 []) (l .sound 0 some)) [
+          | inl e ↦ e
+          | inr b ↦ elim (cases-order 0 (at .0)) [
+            | inl z ↦ sym (at .2) ∙ ap (λ i. getD all i []) (sym z)
+            | inr (inl h) ↦ absurd (before-asymmetric w (getD all 0 []) b (subst (Before (getD all 0 [])) (at .2) (l .rising 0 (at .0) h (at .1))))
+            | inr (inr h) ↦ absurd (omega arith)
+          ]
+        ],
+      )
 
   module _ (k : ℕ) (h : k < length all) where
     abbrev Later : List ℕ → Type 0
@@ -50,13 +51,14 @@ module _ (P : List ℕ → Type 0) (all : List (List ℕ)) (l : Lists P all) whe
     next-listed w f =
         let at = l .complete w (f .holds .0) in
         let past : k < at .0 = behind (at .0) (at .1) (subst (Before (getD all k [])) (sym (at .2)) (f .holds .1)) in
-        let more : k + 1 < length all = omega (arith, at .1) in
-        (more,
-         elim (f .least (getD all (k + 1) []) (later more)) [
-           | inl e ↦ e
-           | inr b ↦ elim (cases-order (k + 1) (at .0)) [
-             | inl z ↦ sym (at .2) ∙ ap (λ i. getD all i []) (sym z)
-             | inr (inl less) ↦ absurd (before-asymmetric w (getD all (k + 1) []) b (subst (Before (getD all (k + 1) [])) (at .2) (l .rising (k + 1) (at .0) less (at .1))))
-             | inr (inr not-so) ↦ absurd (omega arith)
-           ]
-         ])
+        let more : k + 1 < length all = omega (arith, at .1) in (
+          more,
+          elim (f .least (getD all (k + 1) []) (later more)) [
+            | inl e ↦ e
+            | inr b ↦ elim (cases-order (k + 1) (at .0)) [
+              | inl z ↦ sym (at .2) ∙ ap (λ i. getD all i []) (sym z)
+              | inr (inl less) ↦ absurd (before-asymmetric w (getD all (k + 1) []) b (subst (Before (getD all (k + 1) [])) (at .2) (l .rising (k + 1) (at .0) less (at .1))))
+              | inr (inr not-so) ↦ absurd (omega arith)
+            ]
+          ],
+        )

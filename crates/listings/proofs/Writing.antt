@@ -85,9 +85,6 @@ pub numbered-short : (u b : ℕ) → b < 100 → length (numbered u b) ≤ 3
 numbered-short zero b h = omega (arith, two-digits b h)
 numbered-short (suc u) b h = omega (arith, two-digits b h, ap length (numbered-later (suc u) b (λ e. omega arith)))
 
-
-
-
 blank-led-short : (w : List ℕ) → ((u : ℕ) → getD w u 0 < 100) → length (blank-led w) ≤ 3 * length w
 blank-led-short [] h = omega arith
 blank-led-short (b ∷ w) h = omega (arith, two-digits b (h 0), length-append (decimal b) (blank-led w), blank-led-short w (λ u. h (suc u)))

@@ -49,16 +49,21 @@ pub(crate) fn write_listing(out: &mut [u8], mut plan: Plan, job: &Job) -> usize
     let arrangement = JointTable::new(job.arrangement.rows(), job.arrangement.columns());
     let room = JointTable::new(job.room.rows(), job.room.columns());
     let strict = job.mode.is_strict();
-    let filter = Then { first: Degree, second: ArcConsistency };
+    let filter = Then {
+        first: Degree,
+        second: ArcConsistency,
+    };
     let units = job.struck.rows().len();
     let mut bays = [0; 24];
     let mut at = 0;
     let mut listed = 0;
-    let mut found = plan.seek(&arrangement, &room, strict, &filter, &mut bays).is_ok();
+    let mut found = plan.seek(&arrangement, &room, strict, &filter, &mut bays)
+        .is_ok();
     while found && listed < MOST {
         at = write_line(out, at, &bays[0..units]);
         listed += 1;
-        found = plan.further(&arrangement, &room, strict, &filter, &mut bays).is_ok();
+        found = plan.further(&arrangement, &room, strict, &filter, &mut bays)
+            .is_ok();
     }
     write_last(out, at, found)
 }

@@ -80,7 +80,7 @@ returns c =
     let done = rest-done (c .args .input .now) (c .in-Continue-room .cards-at) (length (c .rows-units .result .now)) (length (c .rows-bays .result .now)) _ (c .in-Continue-kinds .ensures tt .value) _ (c .in-Continue-heights .ensures tt .value) _ (c .in-Continue-struck .ensures tt .value) (sym (c .if-not-sizes-match .ensures tt)) in
     let bytes : Bytes (c .args .input .now) = λ i. omega (arith, c .typed .input i) in
     let value = job-done (c .args .input .now) _ (c .in-Continue-mode .ensures tt) _ _ (c .in-Continue-arrangement .ensures tt .value) _ _ (c .in-Continue-room .ensures tt .value) _ _
-        (ap length (c .rows-units .ensures .value)) (ap length (c .rows-bays .ensures .value)) (c .in-Continue-kinds .kinds) (c .in-Continue-heights .heights) _ (done .0) (done .1) in
+    (ap length (c .rows-units .ensures .value)) (ap length (c .rows-bays .ensures .value)) (c .in-Continue-kinds .kinds) (c .in-Continue-heights .heights) _ (done .0) (done .1) in
     record {
       value = value;
       lawful = job-lawful (c .args .input .now) _ bytes value;

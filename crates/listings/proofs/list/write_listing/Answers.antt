@@ -50,7 +50,7 @@ loop-found-again c =
     let er = taken-as (j .room) _ _ _ (law .room) (c .rows-2 .ensures .value) (c .columns-2 .ensures) (c .new-room .ensures) in
     let front = units-front (length (c .rows-units .result .now)) (length (j .struck .rows)) (c .loop-found .bays) (ap length (c .rows-units .ensures .value)) in
     let at = further-at j law _ ea er (c .is-strict-strict .ensures) _ _ (c .further .result) _ _ (g .stands .long) (c .loop-found .listed)
-        (g .stands .listed (c .loop-found-test .taken)) (g .stands .last (c .loop-found-test .taken)) (c .further .ensures .step) in
+    (g .stands .listed (c .loop-found-test .taken)) (g .stands .last (c .loop-found-test .taken)) (c .further .ensures .step) in
     written-more j law g (c .loop-found-test .taken) _ _ _ _ _ (c .if-listed-lt-MOST .taken)
     (subst (λ (w : List ℕ). Wrote (line w) (c .loop-found .at) (c .loop-found .out) (c .write-line-at .last .out) (c .write-line-at .result)) front (c .write-line-at .ensures))
     (subst (λ (b : Bool). At j (c .loop-found .listed + 1) b (c .further .last .out) (c .further .last .self)) (sym (c .is-ok-found-in-loop-found .ensures .value)) at)
@@ -63,10 +63,10 @@ write-last-requires c κs =
 pub returns : need.returns
 returns c =
     let stops : (c .loop-found .found && ltb (c .loop-found .listed) 20) ≡ false =
-        elim (c .loop-found-test .came) [
-          | then-loop-found-test·else-listed-lt-MOST w ↦ and-right _ _ (le-ltb (c .loop-found .listed) 20 (w .if-listed-lt-MOST .left))
-          | else-loop-found-test w ↦ and-left _ _ (w .loop-found-test .left)
-        ] in
+    elim (c .loop-found-test .came) [
+      | then-loop-found-test·else-listed-lt-MOST w ↦ and-right _ _ (le-ltb (c .loop-found .listed) 20 (w .if-listed-lt-MOST .left))
+      | else-loop-found-test w ↦ and-left _ _ (w .loop-found-test .left)
+    ] in
     let g = c .loop-found .inv in
     record {
       near = omega (arith, near (view (c .args .job .now)) (c .pre .lawful) g, g .few, c .write-last .ensures .near);
