@@ -1,0 +1,4 @@
+pub mod Text
+pub mod Suited
+pub mod Fitted
+pub mod JobText
