@@ -126,7 +126,7 @@ fn lines<A: Source, R: Source>(
 }
 
 // Each filter in the first room of the family.
-pub fn applications(rt: &LibcRuntime, timed: bool, family: &Family) -> io::Result<()> {
+pub(crate) fn applications(rt: &LibcRuntime, timed: bool, family: &Family) -> io::Result<()> {
     let drawn = family.room(1);
     let units = drawn.units.count.min(24);
     let bays = drawn.bays.count.min(64);

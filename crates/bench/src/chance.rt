@@ -2,12 +2,12 @@
 ghost use mathlib.Core.Path.{_≡_};
 
 #[derive(Clone, Copy)]
-pub struct Chance {
+pub(crate) struct Chance {
     state: u64,
 }
 
 impl Chance {
-    pub fn new(state: u64) -> Chance
+    pub(crate) fn new(state: u64) -> Chance
         ensures { λ r. ⌜ r .state ≡ state ⌝ }
     {
         Chance { state }
@@ -22,12 +22,12 @@ impl Chance {
     }
 
     // A number below `count`, or 0.
-    pub fn below(&mut self, count: usize) -> usize {
+    pub(crate) fn below(&mut self, count: usize) -> usize {
         self.next() as usize % count.max(1)
     }
 
     // True so many times in a hundred.
-    pub fn percent(&mut self, hundredths: u64) -> bool {
+    pub(crate) fn percent(&mut self, hundredths: u64) -> bool {
         self.next() % 100 < hundredths
     }
 }

@@ -17,7 +17,7 @@ pub enum Shape {
 
 // Rooms of one kind: what is placed on what, in which use, and how many pairs in a hundred are open.
 #[derive(Clone, Copy)]
-pub struct Family {
+pub(crate) struct Family {
     pub name: &'static str,
     pub rooms: u64,
     pub units: Shape,
@@ -27,7 +27,7 @@ pub struct Family {
 }
 
 #[derive(Clone, Copy)]
-pub struct Graph {
+pub(crate) struct Graph {
     pub count: usize,
     pub rows: [u64; 64],
 }
@@ -109,7 +109,7 @@ impl Shape {
 
 // An arrangement, a room and the open rows.
 #[derive(Clone, Copy)]
-pub struct Room {
+pub(crate) struct Room {
     pub units: Graph,
     pub bays: Graph,
     pub open: [u64; 24],
@@ -129,7 +129,7 @@ fn open_rows(chance: &mut Chance, units: usize, bays: usize, hundredths: u64) ->
 
 impl Family {
     // The room with this number.
-    pub fn room(&self, number: u64) -> Room {
+    pub(crate) fn room(&self, number: u64) -> Room {
         let mut chance = Chance::new(number);
         let units = self.units.graph(&mut chance);
         let bays = self.bays.graph(&mut chance);

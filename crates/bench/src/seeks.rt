@@ -116,7 +116,7 @@ fn seek_numbered(rt: &LibcRuntime, timed: bool, family: &Family, number: u64) ->
 }
 
 // A seek in each room of the family.
-pub fn seeks(rt: &LibcRuntime, timed: bool, family: &Family) -> io::Result<()> {
+pub(crate) fn seeks(rt: &LibcRuntime, timed: bool, family: &Family) -> io::Result<()> {
     for k in 0..family.rooms {
         seek_numbered(rt, timed, family, k + 1)?;
     }

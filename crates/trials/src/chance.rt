@@ -3,12 +3,12 @@ ghost use mathlib.Core.Path.{_≡_};
 ghost use Prim.Native.Nat.{_≤_};
 
 #[derive(Clone, Copy)]
-pub struct Chance {
+pub(crate) struct Chance {
     state: u64,
 }
 
 impl Chance {
-    pub fn new(state: u64) -> Chance
+    pub(crate) fn new(state: u64) -> Chance
         ensures { λ r. ⌜ r .state ≡ state ⌝ }
     {
         Chance { state }
@@ -23,7 +23,7 @@ impl Chance {
     }
 
     // A number from `low` up to and with `high`.
-    pub fn between(&mut self, low: usize, high: usize) -> usize
+    pub(crate) fn between(&mut self, low: usize, high: usize) -> usize
         ensures low { λ r. ⌜ low ≤ r ⌝ }
         ensures high { λ r. ⌜ (low ≤ high → r ≤ high) ⌝ }
     {
@@ -33,7 +33,7 @@ impl Chance {
     }
 
     // True so many times in a hundred.
-    pub fn percent(&mut self, hundredths: u64) -> bool {
+    pub(crate) fn percent(&mut self, hundredths: u64) -> bool {
         self.next() % 100 < hundredths
     }
 }

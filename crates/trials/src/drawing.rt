@@ -17,7 +17,7 @@ fn table(chance: &mut Chance, count: usize, hundredths: u64) -> Joints {
 }
 
 // A wall of columns and levels: each node is joined to those beside, above and below it.
-pub fn wall(columns: usize, levels: usize) -> Joints {
+pub(crate) fn wall(columns: usize, levels: usize) -> Joints {
     let mut joints = Joints::new(columns.saturating_mul(levels));
     for level in 0..levels {
         for column in 0..columns {
@@ -45,7 +45,7 @@ fn open_pairs(chance: &mut Chance, units: usize, bays: usize, hundredths: u64) -
 }
 
 // An arrangement and rows for the room.
-pub fn case(chance: &mut Chance, bays: Joints) -> Case {
+pub(crate) fn case(chance: &mut Chance, bays: Joints) -> Case {
     let count = chance.between(1, 5);
     let joints = chance.between(20, 80) as u64;
     let units = table(chance, count, joints);
@@ -55,7 +55,7 @@ pub fn case(chance: &mut Chance, bays: Joints) -> Case {
 }
 
 // A room of 2 to 6 bays.
-pub fn room(chance: &mut Chance) -> Joints {
+pub(crate) fn room(chance: &mut Chance) -> Joints {
     let count = chance.between(2, 6);
     let hundredths = chance.between(30, 90) as u64;
     table(chance, count, hundredths)

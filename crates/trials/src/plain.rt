@@ -6,13 +6,13 @@ ghost use lib.ListN.{replicate};
 
 // Up to 8 nodes, and which of them are joined.
 #[derive(Clone, Copy)]
-pub struct Joints {
+pub(crate) struct Joints {
     pub count: usize,
     pub joined: [[bool; 8]; 8],
 }
 
 impl Joints {
-    pub fn new(count: usize) -> Joints
+    pub(crate) fn new(count: usize) -> Joints
         ensures count { λ r. ⌜ r .count ≡ count ⌝ }
         ensures none { λ r. ⌜ r .joined ≡ replicate 8 (replicate 8 false) ⌝ }
     {
@@ -22,21 +22,21 @@ impl Joints {
         }
     }
 
-    pub fn join(&mut self, a: usize, b: usize) {
+    pub(crate) fn join(&mut self, a: usize, b: usize) {
         if a < 8 && b < 8 {
             self.joined[a][b] = true;
             self.joined[b][a] = true;
         }
     }
 
-    pub fn has(&self, a: usize, b: usize) -> bool {
+    pub(crate) fn has(&self, a: usize, b: usize) -> bool {
         a < 8 && b < 8 && self.joined[a][b]
     }
 }
 
 // An arrangement, a room, and which bays are open to which unit.
 #[derive(Clone, Copy)]
-pub struct Case {
+pub(crate) struct Case {
     pub units: Joints,
     pub bays: Joints,
     pub open: [[bool; 8]; 8],
@@ -44,7 +44,7 @@ pub struct Case {
 
 impl Case {
     // How many lists of bays there are, one bay a unit.
-    pub fn lists(&self) -> usize {
+    pub(crate) fn lists(&self) -> usize {
         let mut lists: usize = 1;
         for _ in 0..self.units.count {
             lists = lists.saturating_mul(self.bays.count);
@@ -53,7 +53,7 @@ impl Case {
     }
 
     // The list with this number, counted from 0 in dictionary order, and zeros behind.
-    pub fn list(&self, number: usize) -> [u8; 24] {
+    pub(crate) fn list(&self, number: usize) -> [u8; 24] {
         let mut list = [0u8; 24];
         let mut rest = number;
         for u in (0..self.units.count.min(8)).rev() {
@@ -90,7 +90,7 @@ impl Case {
     }
 
     // The number of the first placement among the lists from this number on.
-    pub fn placement_from(&self, strict: bool, number: usize) -> Option<usize> {
+    pub(crate) fn placement_from(&self, strict: bool, number: usize) -> Option<usize> {
         for k in number..self.lists() {
             let list = self.list(k);
             if self.passes(strict, &list[0..self.units.count.min(8)]) {
