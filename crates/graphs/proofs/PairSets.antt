@@ -42,7 +42,7 @@ pairs-back m n s us bs =
     fun-ext (λ u. fun-ext (λ b. pairs-rows m n s u b ∙
     ⊎-elim
     (λ lu. ap (λ (t : Bool). t && (ltb b n && s u b)) (lt-ltb u m lu) ∙
-      ⊎-elim (λ lb. ap (λ (t : Bool). t && s u b) (lt-ltb b n lb)) (λ gb. ap (λ (t : Bool). t && s u b) (le-ltb b n gb) ∙ sym (bs u b gb)) (cases-lt b n))
+    ⊎-elim (λ lb. ap (λ (t : Bool). t && s u b) (lt-ltb b n lb)) (λ gb. ap (λ (t : Bool). t && s u b) (le-ltb b n gb) ∙ sym (bs u b gb)) (cases-lt b n))
     (λ gu. ap (λ (t : Bool). t && (ltb b n && s u b)) (le-ltb u m gu) ∙ sym (us u b gu)) (cases-lt u m)))
 
 -- rows inside n bays are those of their pairs
@@ -90,10 +90,10 @@ pub filled-more : (s : Pairs) (i x : ℕ) (rows : List ℕ) → i < 24 → Fille
 filled-more s i x rows lt f e = record {
   long = length-set rows i x ∙ f .long;
   held = λ u b h.
-    let P : ℕ → Type 0 = λ v. pairs (set rows i x) v b ≡ s v b in
-    let l : i < length rows = omega (arith, f .long) in
-    ⊎-elim (λ z. subst P (sym z) (ap (λ (y : ℕ). bit y b) (getD-set-same rows i x 0 l) ∙ e b))
-    (λ ne. ap (λ (y : ℕ). bit y b) (getD-set-other rows i u x 0 ne) ∙ f .held u b (omega (arith, ne))) (cases-eq u i);
+      let P : ℕ → Type 0 = λ v. pairs (set rows i x) v b ≡ s v b in
+      let l : i < length rows = omega (arith, f .long) in
+      ⊎-elim (λ z. subst P (sym z) (ap (λ (y : ℕ). bit y b) (getD-set-same rows i x 0 l) ∙ e b))
+      (λ ne. ap (λ (y : ℕ). bit y b) (getD-set-other rows i u x 0 ne) ∙ f .held u b (omega (arith, ne))) (cases-eq u i);
 }
 
 pub filled-all : (s : Pairs) (i : ℕ) (rows : List ℕ) → 24 ≤ i → Filled s i rows → ((u b : ℕ) → 24 ≤ u → s u b ≡ false) → (u b : ℕ) → pairs rows u b ≡ s u b
@@ -109,4 +109,4 @@ pub bit-without : (x y b : ℕ) → x < 2 ^ 64 → y < 2 ^ 64 → bit (bitAnd x 
 bit-without x y b hx hy =
     bit-and x (18446744073709551615 - y) b ∙ ap (λ (t : Bool). bit x b && t) (bit-not 64 y b hy)
     ∙ ⊎-elim (λ l. ap (λ (t : Bool). bit x b && (t && not (bit y b))) (lt-ltb b 64 l))
-      (λ g. ap (λ (t : Bool). t && (ltb b 64 && not (bit y b))) (bit-past x b 64 hx g) ∙ sym (ap (λ (t : Bool). t && not (bit y b)) (bit-past x b 64 hx g))) (cases-lt b 64)
+    (λ g. ap (λ (t : Bool). t && (ltb b 64 && not (bit y b))) (bit-past x b 64 hx g) ∙ sym (ap (λ (t : Bool). t && not (bit y b)) (bit-past x b 64 hx g))) (cases-lt b 64)

@@ -62,7 +62,7 @@ many-more :
 many-more zero n r q u b hu hb rb qb same = absurd (omega arith)
 many-more (suc m) n r q zero b hu hb rb qb same =
     let rest : how-many m n (λ v. q (suc v)) ≡ how-many m n (λ v. r (suc v)) =
-        ap (how-many m n) (fun-ext (λ v. fun-ext (λ c. same (suc v) c (λ e. let z = e .0 in omega arith)))) in
+    ap (how-many m n) (fun-ext (λ v. fun-ext (λ c. same (suc v) c (λ e. let z = e .0 in omega arith)))) in
     ap₂ (λ x y. x + y) (count-more n (r 0) (q 0) b hb rb qb (λ c ne. same 0 c (λ e. ne (e .1)))) rest ∙ omega arith
 many-more (suc m) n r q (suc u) b hu hb rb qb same =
     let top : count n (q 0) ≡ count n (r 0) = ap (count n) (fun-ext (λ c. same 0 c (λ e. let z = e .0 in omega arith))) in
@@ -91,13 +91,13 @@ balanced-on l k (strike u b) v e =
     let p = pair-in l u b _ v in
     let out = keeps-rule R.Standing (l .struck u b) accepted (p .2) .0 in
     let more = many-more (l .units) (l .bays) (l .struck) (λ v c. l .struck v c || one-pair u b v c) u b (p .0) (p .1) out
-        (ap (λ t. l .struck u b || t) (here u b) ∙ or-true (l .struck u b)) (λ v c ne. ap (λ t. l .struck v c || t) (elsewhere u b v c ne) ∙ or-false (l .struck v c)) in
+    (ap (λ t. l .struck u b || t) (here u b) ∙ or-true (l .struck u b)) (λ v c ne. ap (λ t. l .struck v c || t) (elsewhere u b v c ne) ∙ or-false (l .struck v c)) in
     omega (arith, more, e)
 balanced-on l k (free u b) v e =
     let p = pair-in l u b _ v in
     let held = not-false _ (keeps-rule R.Standing (not (l .struck u b)) accepted (p .2) .0) in
     let more = many-more (l .units) (l .bays) (λ v c. l .struck v c && not (one-pair u b v c)) (l .struck) u b (p .0) (p .1)
-        (ap₂ (λ s t. s && not t) held (here u b)) held (λ v c ne. sym (ap (λ t. l .struck v c && not t) (elsewhere u b v c ne) ∙ and-true (l .struck v c))) in
+    (ap₂ (λ s t. s && not t) held (here u b)) held (λ v c ne. sym (ap (λ t. l .struck v c && not t) (elsewhere u b v c ne) ∙ and-true (l .struck v c))) in
     omega (arith, more, e)
 balanced-on l k (fit x) v e = e
 balanced-on l k (fit-further x) v e = e

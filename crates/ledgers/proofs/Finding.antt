@@ -49,8 +49,8 @@ held-in : (r : Pairs) (u b k x : ℕ) → held-to r u b k x ≡ true → (r k x 
 held-in r u b k x h =
     ⊎-elim
     (λ e.
-      let parts = and-parts (r k x) (eqb b x) (sym (ap (λ t. cond t (r k x && eqb b x) (r k x)) (eq-eqb u k e)) ∙ h) in
-      (parts .0, λ e′. eqb-true b x (parts .1)))
+    let parts = and-parts (r k x) (eqb b x) (sym (ap (λ t. cond t (r k x && eqb b x) (r k x)) (eq-eqb u k e)) ∙ h) in
+    (parts .0, λ e′. eqb-true b x (parts .1)))
     (λ ne. (sym (ap (λ t. cond t (r k x && eqb b x) (r k x)) (ne-eqb u k ne)) ∙ h, λ e. absurd (ne e))) (cases-eq u k)
 
 held-of : (r : Pairs) (u b k x : ℕ) → r k x ≡ true → (u ≡ k → b ≡ x) → held-to r u b k x ≡ true
@@ -59,9 +59,10 @@ held-of r u b k x h at =
     (λ ne. ap (λ t. cond t (r k x && eqb b x) (r k x)) (ne-eqb u k ne) ∙ h) (cases-eq u k)
 
 pub wanted-in : (s : Setting) (r : Pairs) (u b : ℕ) (w : List ℕ) → u < s .arrangement .count → Wanted s (held-to r u b) None w → Wanted s r None w × (getD w u 0 ≡ b)
-wanted-in s r u b w l h =
-    (record { placed = h .placed; within = λ v z. held-in r u b v (getD w v 0) (h .within v z) .0; after = tt },
-     sym (held-in r u b u (getD w u 0) (h .within u (let e = h .placed .whole in omega arith)) .1 refl))
+wanted-in s r u b w l h = (
+  record { placed = h .placed; within = λ v z. held-in r u b v (getD w v 0) (h .within v z) .0; after = tt },
+  sym (held-in r u b u (getD w u 0) (h .within u (let e = h .placed .whole in omega arith)) .1 refl),
+)
 
 pub wanted-of : (s : Setting) (r : Pairs) (u b : ℕ) (w : List ℕ) → Wanted s r None w → getD w u 0 ≡ b → Wanted s (held-to r u b) None w
 wanted-of s r u b w h at =

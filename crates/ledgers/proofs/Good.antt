@@ -63,10 +63,11 @@ good-find l s o g ea er = record { ranged = g .ranged; fitted = g .fitted; last 
     go : (f : Option (List ℕ)) → Answers (Open l s o) f → AnswersIn (l .units) (l .bays) (newest f (l .last))
     go None x = g .last
     go (Some w) x =
-        let long = x .holds .placed .whole ∙ ea in
-        ((let e = long in omega arith),
-         λ u. ⊎-elim (λ lt. let b = x .holds .placed .on-bays u (let e = ea in omega arith) in let e = er in omega arith)
-              (λ ge. let P : ℕ → Type 0 = λ k. k < l .bays in subst P (sym (getD-past w u 0 (let e = long in omega arith))) (g .ranged .some-bays)) (cases-lt u (l .units)))
+        let long = x .holds .placed .whole ∙ ea in (
+          (let e = long in omega arith),
+          λ u. ⊎-elim (λ lt. let b = x .holds .placed .on-bays u (let e = ea in omega arith) in let e = er in omega arith)
+              (λ ge. let P : ℕ → Type 0 = λ k. k < l .bays in subst P (sym (getD-past w u 0 (let e = long in omega arith))) (g .ranged .some-bays)) (cases-lt u (l .units)),
+        )
 
 good-open : (l : Ledger) (bs : List ℕ) → Bytes bs → (r : Result Form PlanFault) → read-plan bs 0 ≡ r → Good l → Good (opened l r)
 good-open l bs b (Err e) k g = g
@@ -97,23 +98,25 @@ good-made l (strike u b) g sh v =
     let p = pair-in l u b _ v in
     record {
       ranged = restruck l (λ v c. l .struck v c || one-pair u b v c) g
-        (λ w c le. ap₂ (λ x y. x || y) (g .ranged .units w c le) (off-unit u b w c (let h = p .0 in omega arith)))
-        (λ w c le. ap₂ (λ x y. x || y) (g .ranged .bays w c le) (off-bay u b w c (let h = p .1 in omega arith)));
+          (λ w c le. ap₂ (λ x y. x || y) (g .ranged .units w c le) (off-unit u b w c (let h = p .0 in omega arith)))
+          (λ w c le. ap₂ (λ x y. x || y) (g .ranged .bays w c le) (off-bay u b w c (let h = p .1 in omega arith)));
       fitted = g .fitted;
       last = g .last;
     }
 good-made l (free u b) g sh v =
     record {
       ranged = restruck l (λ v c. l .struck v c && not (one-pair u b v c)) g
-        (λ w c le. ap (λ x. x && not (one-pair u b w c)) (g .ranged .units w c le)) (λ w c le. ap (λ x. x && not (one-pair u b w c)) (g .ranged .bays w c le));
+          (λ w c le. ap (λ x. x && not (one-pair u b w c)) (g .ranged .units w c le)) (λ w c le. ap (λ x. x && not (one-pair u b w c)) (g .ranged .bays w c le));
       fitted = g .fitted;
       last = g .last;
     }
 good-made l (fit k) g sh v =
     record {
       ranged = g .ranged;
-      fitted = (λ u b le. ap (λ t. (t && ltb b (l .bays)) && k .suits u b) (le-ltb u (l .units) le),
-                λ u b le. ap (λ t. (ltb u (l .units) && t) && k .suits u b) (le-ltb b (l .bays) le) ∙ no-way (ltb u (l .units)) (k .suits u b));
+      fitted = (
+        λ u b le. ap (λ t. (t && ltb b (l .bays)) && k .suits u b) (le-ltb u (l .units) le),
+        λ u b le. ap (λ t. (ltb u (l .units) && t) && k .suits u b) (le-ltb b (l .bays) le) ∙ no-way (ltb u (l .units)) (k .suits u b),
+      );
       last = g .last;
     }
   where

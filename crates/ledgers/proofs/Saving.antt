@@ -68,7 +68,7 @@ opens-to l m n s r bs e =
 pub opened-is-saved :
     (l : Ledger) (bs : List ℕ) (m n : ℕ) (s : Pairs) → Bytes bs
     → ((verdict l («open» bs) ≡ accepted) × (made l («open» bs) ≡ begun m n s) → Ranged m n s × (bs ≡ saved-form m n s))
-      × (Ranged m n s × (bs ≡ saved-form m n s) → (verdict l («open» bs) ≡ accepted) × (made l («open» bs) ≡ begun m n s))
+    × (Ranged m n s × (bs ≡ saved-form m n s) → (verdict l («open» bs) ≡ accepted) × (made l («open» bs) ≡ begun m n s))
 opened-is-saved l bs m n s b =
     (λ h. go (read-plan bs 0) refl (h .0) (h .1), λ h. opens-to l m n s (h .0) bs (h .1))
   where

@@ -23,8 +23,8 @@ both-below : (m n u b : ℕ) (t : Bool) → (m ≤ u → t ≡ false) → (n ≤
 both-below m n u b t hu hb =
     ⊎-elim
     (λ lu.
-      ⊎-elim (λ lb. sym (ap₂ (λ x y. (x && y) && t) (lt-ltb u m lu) (lt-ltb b n lb)))
-      (λ gb. hb gb ∙ sym (ap₂ (λ x y. (x && ltb b n) && y) (lt-ltb u m lu) (hb gb) ∙ last (ltb b n))) (cases-lt b n))
+    ⊎-elim (λ lb. sym (ap₂ (λ x y. (x && y) && t) (lt-ltb u m lu) (lt-ltb b n lb)))
+    (λ gb. hb gb ∙ sym (ap₂ (λ x y. (x && ltb b n) && y) (lt-ltb u m lu) (hb gb) ∙ last (ltb b n))) (cases-lt b n))
     (λ gu. hu gu ∙ sym (ap (λ x. (x && ltb b n) && t) (le-ltb u m gu))) (cases-lt u m)
   where
     last : (s : Bool) → (s && false) ≡ false
@@ -38,10 +38,10 @@ module _ {U B : Type 0} (f : U → B → Bool) (us : List U) (bs : List B) where
   fit-step p q lu lb is eu eb es ef el =
       let d = handed f us bs in
       let table : pairs (q .fitted) ≡ (λ v c. (ltb v (p .units) && ltb c (p .bays)) && d .suits v c) =
-          fun-ext (λ v. fun-ext (λ c.
-              is v c
-              ∙ both-below (p .units) (p .bays) v c (d .suits v c) (λ le. handed-past-units f us bs v c (omega arith))
-                (λ le. handed-past-bays f us bs v c (omega arith)))) in
+      fun-ext (λ v. fun-ext (λ c.
+      is v c
+      ∙ both-below (p .units) (p .bays) v c (d .suits v c) (λ le. handed-past-units f us bs v c (omega arith))
+      (λ le. handed-past-bays f us bs v c (omega arith)))) in
       done-step p q (fit d)
       (cond-false _ _ _ (or-from _ _ (not-from-true _ (eq-eqb _ _ lu)) (not-from-true _ (eq-eqb _ _ lb))))
       (λ i. of (eu i) (eb i) (pairs (es i)) ((ap (λ t. fitting t (q .fitted)) ef ∙ ap fits table) i) (shortened (eu i) (el i)))
@@ -60,7 +60,7 @@ module _ {U B : Type 0} (f : U → B → Bool) (us : List U) (bs : List B) where
   fit-further-step p q lu lb fitted is eu eb es ef el =
       let d = handed f us bs in
       let table : fitting (q .fit) (q .fitted) ≡ narrowed-by (fitting (p .fit) (p .fitted)) (d .suits) =
-          ap (λ t. fitting t (q .fitted)) (ef ∙ fitted) ∙ ap fits (fun-ext (λ v. fun-ext (λ c. is v c))) ∙ sym (ap (λ t. narrowed-by (fitting t (p .fitted)) (d .suits)) fitted) in
+      ap (λ t. fitting t (q .fitted)) (ef ∙ fitted) ∙ ap fits (fun-ext (λ v. fun-ext (λ c. is v c))) ∙ sym (ap (λ t. narrowed-by (fitting t (p .fitted)) (d .suits)) fitted) in
       done-step p q (fit-further d)
       (cond-false _ _ _ (or-from _ _ (not-from-true _ (eq-eqb _ _ lu)) (not-from-true _ (eq-eqb _ _ lb))) ∙ cond-false _ _ _ (ap (λ t. no-fit (fitting t (p .fitted))) fitted))
       (λ i. of (eu i) (eb i) (pairs (es i)) (table i) (shortened (eu i) (el i)))

@@ -62,6 +62,7 @@ good-view p =
     fit-in : (t : Bool) → FitsIn (p .units) (p .bays) (fitting t (p .fitted))
     fit-in true = (none-past (p .units) (p .fitted) (p .«fitted_blank»), none-beyond (p .bays) (p .fitted) (p .«fitted_inside»))
     fit-in false = tt
+
     last-in : (o : Option (List ℕ)) → Low (p .bays) (bays-in o) → AnswersIn (p .units) (p .bays) (shortened (p .units) o)
     last-in None low = tt
     last-in (Some w) low = (short (p .units) w, low-take (p .units) (p .bays) w (p .«some_bays») low)
@@ -74,37 +75,60 @@ make m n s f o r fi an = (plan, λ i. of m n (strikes i) (fit-is f fi i) (last-i
     table-of : Fitting → List ℕ
     table-of unfitted = rows-of m n no-pairs
     table-of (fits g) = rows-of m n g
+
     flag-of : Fitting → Bool
     flag-of unfitted = false
     flag-of (fits g) = true
+
     strikes : pairs (rows-of m n s) ≡ s
     strikes = pairs-back m n s (r .units) (r .bays)
+
     fit-is : (f : Fitting) → FitsIn m n f → fitting (flag-of f) (table-of f) ≡ f
     fit-is unfitted x = refl
     fit-is (fits g) x = ap fits (pairs-back m n g (x .0) (x .1))
+
     last-is : (o : Option (List ℕ)) → AnswersIn m n o → shortened m o ≡ o
     last-is None x = refl
     last-is (Some w) x = ap Some (take-all m w (x .0))
+
     past : (s : Pairs) (u : ℕ) → m ≤ u → getD (rows-of m n s) u 0 ≡ 0
     past s u le = getD-past (rows-of m n s) u 0 (let e = rows-length m n s in omega arith)
+
     table-low : (f : Fitting) → Inside n (table-of f)
     table-low unfitted = rows-low m n no-pairs
     table-low (fits g) = rows-low m n g
+
     table-blank : (f : Fitting) → Blank m (table-of f)
     table-blank unfitted = past no-pairs
     table-blank (fits g) = past g
+
     last-low : (o : Option (List ℕ)) → AnswersIn m n o → Low n (bays-in o)
     last-low None x u = r .some-bays
     last-low (Some w) x u = x .1 u
+
     last-blank : (o : Option (List ℕ)) → AnswersIn m n o → Blank m (bays-in o)
     last-blank None x u le = refl
     last-blank (Some w) x u le = getD-past w u 0 (let e = x .0 in omega arith)
+
     plan : Plan
     plan = record {
-      units = m; bays = n; struck = rows-of m n s; fit = flag-of f; fitted = table-of f; last = o;
-      «some_units» = r .some-units; «few_units» = r .few-units; «some_bays» = r .some-bays; «few_bays» = r .few-bays;
-      inside = rows-low m n s; blank = past s;
-      «fitted_inside» = table-low f; «fitted_blank» = table-blank f; «last_low» = last-low o an; «last_blank» = last-blank o an }
+      units = m;
+      bays = n;
+      struck = rows-of m n s;
+      fit = flag-of f;
+      fitted = table-of f;
+      last = o;
+      «some_units» = r .some-units;
+      «few_units» = r .few-units;
+      «some_bays» = r .some-bays;
+      «few_bays» = r .few-bays;
+      inside = rows-low m n s;
+      blank = past s;
+      «fitted_inside» = table-low f;
+      «fitted_blank» = table-blank f;
+      «last_low» = last-low o an;
+      «last_blank» = last-blank o an;
+    }
 
 plan-of : (l : Ledger) → Good l → (q : Plan) × (view q ≡ l)
 plan-of l g = make (l .units) (l .bays) (l .struck) (l .fitted) (l .last) (g .ranged) (g .fitted) (g .last)
@@ -143,6 +167,7 @@ finding-on p c s o out sh v ea er em answers = go (find-in (view p) s o) refl (f
   where
     t : ℕ
     t = tries-in (view p) s (open-pairs (view p)) o
+
     go : (f : Option (List ℕ)) → find-in (view p) s o ≡ f → Answers (Open (view p) s o) f → On p c
     go None e x = idle-on p c (none t) out v (sym (em ∙ ap (with-find (view p)) e)) (answers (none t) out (inr (x, refl, refl)))
     go (Some w) e x =
@@ -154,8 +179,10 @@ asking-on p u b s v hu ea er = go (find (p .units) (p .bays) (wanted s (held-to 
   where
     r : Pairs
     r = open-pairs (view p)
+
     t : ℕ
     t = tries-in (view p) s (held-to r u b) None
+
     go : (f : Option (List ℕ)) → Answers (Wanted s (held-to r u b) None) f → On p (what-if u b s)
     go None x = idle-on p (what-if u b s) (none t) [] v refl (inr (λ h. x (h .0) (wanted-of s r u b (h .0) (h .1) (h .2)), refl), refl)
     go (Some w) x =
@@ -186,8 +213,9 @@ pub goes-on : (p : Plan) (c : Call) → Shows c → On p c
 goes-on p c sh =
     let P : Verdict → Type 0 = λ v. verdict (view p) c ≡ v → On p c in
     let go : (v : Verdict) → P v = λ v. elim v as P [
-        accepted ↦ λ e. accepted-on p c sh e
-      | declined x ↦ λ e. (refused x, buffer-of c, p, declined-step p c x (refused x) (buffer-of c) e refl refl) ] in
+      | accepted ↦ λ e. accepted-on p c sh e
+      | declined x ↦ λ e. (refused x, buffer-of c, p, declined-step p c x (refused x) (buffer-of c) e refl refl)
+    ] in
     go (verdict (view p) c) refl
 
 -- what a plan holds is in range

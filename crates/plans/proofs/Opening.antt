@@ -90,20 +90,20 @@ save-ok p f out out′ k ef s =
     ⊎-elim
     (λ short. absurd (ok-err k Short (s .answer ∙ cond-true _ _ _ short)))
     (λ fits.
-      let room : length f ≤ length out = ltb-false (length out) (length f) fits in
-      let len : k ≡ length f = ok-ok k (length f) (s .answer ∙ cond-false _ _ _ fits) in
-      let put : out′ ≡ over f out = s .buffer ∙ cond-false _ _ _ fits ∙ lay-front out f room in
-      let P : List ℕ → Type 0 = λ g. ltb (length out) (length g) ≡ false in
-      accepted-step p p (save out) (number k) out′ (cond-false _ _ _ (subst P ef fits)) refl
-      (ap number (len ∙ ap length ef), put ∙ ap (λ g. over g out) ef) (λ _. same-self p))
+    let room : length f ≤ length out = ltb-false (length out) (length f) fits in
+    let len : k ≡ length f = ok-ok k (length f) (s .answer ∙ cond-false _ _ _ fits) in
+    let put : out′ ≡ over f out = s .buffer ∙ cond-false _ _ _ fits ∙ lay-front out f room in
+    let P : List ℕ → Type 0 = λ g. ltb (length out) (length g) ≡ false in
+    accepted-step p p (save out) (number k) out′ (cond-false _ _ _ (subst P ef fits)) refl
+    (ap number (len ∙ ap length ef), put ∙ ap (λ g. over g out) ef) (λ _. same-self p))
     (cases-bool (ltb (length out) (length f)))
 
 pub save-err : (p : Plan) (f out out′ : List ℕ) (e : SaveFault) → f ≡ form-of (view p) → Saved f out out′ (Err e) → Step p (turn (save out) (refused (rule NoRoom)) out′) p
 save-err p f out out′ e ef s =
     ⊎-elim
     (λ short.
-      let P : List ℕ → Type 0 = λ g. ltb (length out) (length g) ≡ true in
-      declined-step p (save out) (rule NoRoom) (refused (rule NoRoom)) out′ (cond-true _ _ _ (subst P ef short)) refl (s .buffer ∙ cond-true _ _ _ short))
+    let P : List ℕ → Type 0 = λ g. ltb (length out) (length g) ≡ true in
+    declined-step p (save out) (rule NoRoom) (refused (rule NoRoom)) out′ (cond-true _ _ _ (subst P ef short)) refl (s .buffer ∙ cond-true _ _ _ short))
     (λ fits. absurd (ok-err (length f) e (sym (s .answer ∙ cond-false _ _ _ fits))))
     (cases-bool (ltb (length out) (length f)))
 
@@ -120,23 +120,23 @@ pub fronting-set : (rows front : List ℕ) (i : ℕ) → i < 24 → Fronting row
 fronting-set rows front i lt f = record {
   long = length-set front i (getD rows i 0) ∙ f .long;
   at = λ u.
-    let l : i < length front = (let e = f .long in omega arith) in
-    ⊎-elim
-    (λ e.
+      let l : i < length front = (let e = f .long in omega arith) in
+      ⊎-elim
+      (λ e.
       let P : ℕ → Type 0 = λ k. getD (set front i (getD rows i 0)) k 0 ≡ cond (ltb k (i + 1)) (getD rows k 0) 0 in
       subst P (sym e) (getD-set-same front i (getD rows i 0) 0 l ∙ sym (ap (λ t. cond t (getD rows i 0) 0) (lt-ltb i (i + 1) (omega arith)))))
-    (λ ne. getD-set-other front i u (getD rows i 0) 0 ne ∙ f .at u ∙ ap (λ t. cond t (getD rows u 0) 0) (below-more u i ne)) (cases-eq u i);
+      (λ ne. getD-set-other front i u (getD rows i 0) 0 ne ∙ f .at u ∙ ap (λ t. cond t (getD rows u 0) 0) (below-more u i ne)) (cases-eq u i);
 }
 
 pub fronting-pass : (rows front : List ℕ) (i : ℕ) → length rows ≤ i → Fronting rows i front → Fronting rows (i + 1) front
 fronting-pass rows front i le f = record {
   long = f .long;
   at = λ u.
-    ⊎-elim
-    (λ e.
+      ⊎-elim
+      (λ e.
       let none : getD rows u 0 ≡ 0 = getD-past rows u 0 (omega arith) in
       f .at u ∙ ap (λ x. cond (ltb u i) x 0) none ∙ same (ltb u i) ∙ sym (ap (λ x. cond (ltb u (i + 1)) x 0) none ∙ same (ltb u (i + 1))))
-    (λ ne. f .at u ∙ ap (λ t. cond t (getD rows u 0) 0) (below-more u i ne)) (cases-eq u i);
+      (λ ne. f .at u ∙ ap (λ t. cond t (getD rows u 0) 0) (below-more u i ne)) (cases-eq u i);
 }
   where
     same : (t : Bool) → _≡_ {A = ℕ} (cond t 0 0) 0

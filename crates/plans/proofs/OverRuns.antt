@@ -79,8 +79,8 @@ furthers s out a b x v =
 what-ifs :
     (u v : ℕ) (s : Setting) (a : Answer) (b : List ℕ) (x : Next (what-if u v s) a b) → verdict (was x) (what-if u v s) ≡ accepted
     → ((Some-has (was x) s u v × (a ≡ yes (tries-in (was x) s (held-to (open-pairs (was x)) u v) None)))
-       ⊎ ((Some-has (was x) s u v → ⊥) × (a ≡ none (tries-in (was x) s (held-to (open-pairs (was x)) u v) None))))
-      × Unchanged x
+    ⊎ ((Some-has (was x) s u v → ⊥) × (a ≡ none (tries-in (was x) s (held-to (open-pairs (was x)) u v) None))))
+    × Unchanged x
 what-ifs u v s a b x e =
     let c = what-if u v s in
     let r = accepted-at (was x) c a b (right-at c a b x) e .0 in
@@ -102,8 +102,8 @@ does (save out) a b x v w = absurd (false≢true w)
 tallies :
     (a : Answer) (b : List ℕ) (x : Next tally a b)
     → (k : ℕ) × (a ≡ number k) × (k ≡ how-many (was x .units) (was x .bays) (λ u v. not (was x .struck u v)))
-      × (k + (counted (calls (x .turns)) .starts + counted (calls (x .turns)) .strikes) ≡ was x .units * was x .bays + counted (calls (x .turns)) .frees)
-      × Unchanged x
+    × (k + (counted (calls (x .turns)) .starts + counted (calls (x .turns)) .strikes) ≡ was x .units * was x .bays + counted (calls (x .turns)) .frees)
+    × Unchanged x
 tallies a b x =
     let l = was x in
     let r = accepted-at l tally a b (right-at tally a b x) refl in
@@ -114,21 +114,21 @@ tallies a b x =
 saves :
     (out : List ℕ) (a : Answer) (b : List ℕ) (x : Next (save out) a b)
     → ((length out < length (form-of (was x))) × (a ≡ refused (rule R.NoRoom)) × (b ≡ out) × Unchanged x)
-      ⊎ ((length (form-of (was x)) ≤ length out) × (a ≡ number (length (form-of (was x)))) × (b ≡ over (form-of (was x)) out) × Unchanged x)
+    ⊎ ((length (form-of (was x)) ≤ length out) × (a ≡ number (length (form-of (was x)))) × (b ≡ over (form-of (was x)) out) × Unchanged x)
 saves out a b x =
     let l = was x in
     let c = save out in
     ⊎-elim
     (λ lt. let r = declined-at l c a b (rule R.NoRoom) (right-at c a b x) (cond-true _ _ _ (lt-ltb (length out) (length (form-of l)) lt)) in
-           inl (lt, r .0, r .1, unchanged c a b x (ap idle (r .0))))
+    inl (lt, r .0, r .1, unchanged c a b x (ap idle (r .0))))
     (λ ge. let r = accepted-at l c a b (right-at c a b x) (cond-false _ _ _ (le-ltb (length out) (length (form-of l)) ge)) in
-           inr (ge, r .0, r .1, unchanged c a b x (ap idle (r .0))))
+    inr (ge, r .0, r .1, unchanged c a b x (ap idle (r .0))))
     (cases-lt (length out) (length (form-of l)))
 
 saved-opens :
     (t : List Turn) (p : Plan) → Run t p → (l : Ledger)
     → (verdict l («open» (form-of (ledger (calls t)))) ≡ accepted)
-      × (made l («open» (form-of (ledger (calls t)))) ≡ begun (ledger (calls t) .units) (ledger (calls t) .bays) (ledger (calls t) .struck))
+    × (made l («open» (form-of (ledger (calls t)))) ≡ begun (ledger (calls t) .units) (ledger (calls t) .bays) (ledger (calls t) .struck))
 saved-opens t p r l =
     let k = ledger (calls t) in
     opens-to l (k .units) (k .bays) (k .struck) (subst (λ (x : Ledger). Ranged (x .units) (x .bays) (x .struck)) (run-keeps t p r) (plan-ranged p)) (form-of k) refl
@@ -167,8 +167,9 @@ likeness [] = refl
 likeness (x ∷ t) =
     let P : Bool → Type 0 = λ b. asks (x .call) ≡ b → ledger (calls (cond b (others t) (x ∷ others t))) ≡ after (ledger (calls t)) (x .call) in
     let go : (b : Bool) → P b = λ b. elim b as P [
-        true ↦ λ e. likeness t ∙ asked-same (x .call) (ledger (calls t)) e
-      | false ↦ λ e. ap (λ l. after l (x .call)) (likeness t) ] in
+      | true ↦ λ e. likeness t ∙ asked-same (x .call) (ledger (calls t)) e
+      | false ↦ λ e. ap (λ l. after l (x .call)) (likeness t)
+    ] in
     go (asks (x .call)) refl
 
 others-right : (t : List Turn) → All-right t → All-right (others t)
@@ -176,8 +177,9 @@ others-right [] r = tt
 others-right (x ∷ t) (r, rs) =
     let P : Bool → Type 0 = λ b. All-right (cond b (others t) (x ∷ others t)) in
     let go : (b : Bool) → P b = λ b. elim b as P [
-        true ↦ others-right t rs
-      | false ↦ (subst (λ l. Right l (x .call) (x .answer) (x .buffer)) (sym (likeness t)) r, others-right t rs) ] in
+      | true ↦ others-right t rs
+      | false ↦ (subst (λ l. Right l (x .call) (x .answer) (x .buffer)) (sym (likeness t)) r, others-right t rs)
+    ] in
     go (asks (x .call))
 
 nil-cons : {X : Type 0} {x : X} {xs : List X} → [] ≡ x ∷ xs → ⊥
@@ -192,14 +194,15 @@ same-turns (x ∷ s) (y ∷ t) (r, rs) (q, qs) e =
     let tails : calls s ≡ calls t = cc in
     let rest : s ≡ t = same-turns s t rs qs tails in
     let q′ : Right (ledger (calls s)) (x .call) (y .answer) (y .buffer) =
-        subst (λ h. Right (ledger h) (x .call) (y .answer) (y .buffer)) (sym tails) (subst (λ c. Right (ledger (calls t)) c (y .answer) (y .buffer)) (sym heads) q) in
+    subst (λ h. Right (ledger h) (x .call) (y .answer) (y .buffer)) (sym tails) (subst (λ c. Right (ledger (calls t)) c (y .answer) (y .buffer)) (sym heads) q) in
     let equal = one-right (ledger (calls s)) (x .call) (x .answer) (y .answer) (x .buffer) (y .buffer) r q′ in
     λ i. turn (heads i) (equal .0 i) (equal .1 i) ∷ rest i
 
 alike : (s t : List Turn) (p q : Plan) → Run s p → Run t q → calls (others s) ≡ calls (others t) → (others s ≡ others t) × (view p ≡ view q)
-alike s t p q r r′ e =
-    (same-turns (others s) (others t) (others-right s (runs-right s p r)) (others-right t (runs-right t q r′)) e,
-     run-keeps s p r ∙ sym (likeness s) ∙ ap ledger e ∙ likeness t ∙ sym (run-keeps t q r′))
+alike s t p q r r′ e = (
+  same-turns (others s) (others t) (others-right s (runs-right s p r)) (others-right t (runs-right t q r′)) e,
+  run-keeps s p r ∙ sym (likeness s) ∙ ap ledger e ∙ likeness t ∙ sym (run-keeps t q r′),
+)
 
 pub law : Law
 law = record {

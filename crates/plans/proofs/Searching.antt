@@ -54,19 +54,19 @@ narrowed :
     → (λ v c. pairs (set fitted u (bitAnd (getD fitted u 0) (2 ^ b))) v c && not (pairs struck v c)) ≡ held-to (λ v c. pairs fitted v c && not (pairs struck v c)) u b
 narrowed fitted struck u b lt =
     fun-ext (λ v. fun-ext (λ c.
-        let x = bitAnd (getD fitted u 0) (2 ^ b) in
-        let open-at : ℕ → Bool = λ w. bit (getD fitted w 0) c && not (pairs struck w c) in
-        let Goal : ℕ → Bool → Type 0 = λ w t. (bit (getD (set fitted u x) w 0) c && not (pairs struck w c)) ≡ cond t (open-at w && eqb b c) (open-at w) in
-        ⊎-elim
-        (λ e.
-          let row : bit (getD (set fitted u x) u 0) c ≡ (bit (getD fitted u 0) c && eqb b c) =
-              ap (λ y. bit y c) (getD-set-same fitted u x 0 lt) ∙ bit-and (getD fitted u 0) (2 ^ b) c ∙ ap (λ t. bit (getD fitted u 0) c && t) (bit-one b c) in
-          let at : Goal u true = ap (λ t. t && not (pairs struck u c)) row ∙ shuffle (bit (getD fitted u 0) c) (pairs struck u c) (eqb b c) in
-          let at′ : Goal v true = subst (λ w. Goal w true) e at in
-          subst (Goal v) (sym (eq-eqb u v e)) at′)
-        (λ ne.
-          let at : Goal v false = ap (λ y. bit y c && not (pairs struck v c)) (getD-set-other fitted u v x 0 (λ e. ne (sym e))) in
-          subst (Goal v) (sym (ne-eqb u v ne)) at) (cases-eq u v)))
+    let x = bitAnd (getD fitted u 0) (2 ^ b) in
+    let open-at : ℕ → Bool = λ w. bit (getD fitted w 0) c && not (pairs struck w c) in
+    let Goal : ℕ → Bool → Type 0 = λ w t. (bit (getD (set fitted u x) w 0) c && not (pairs struck w c)) ≡ cond t (open-at w && eqb b c) (open-at w) in
+    ⊎-elim
+    (λ e.
+    let row : bit (getD (set fitted u x) u 0) c ≡ (bit (getD fitted u 0) c && eqb b c) =
+    ap (λ y. bit y c) (getD-set-same fitted u x 0 lt) ∙ bit-and (getD fitted u 0) (2 ^ b) c ∙ ap (λ t. bit (getD fitted u 0) c && t) (bit-one b c) in
+    let at : Goal u true = ap (λ t. t && not (pairs struck u c)) row ∙ shuffle (bit (getD fitted u 0) c) (pairs struck u c) (eqb b c) in
+    let at′ : Goal v true = subst (λ w. Goal w true) e at in
+    subst (Goal v) (sym (eq-eqb u v e)) at′)
+    (λ ne.
+    let at : Goal v false = ap (λ y. bit y c && not (pairs struck v c)) (getD-set-other fitted u v x 0 (λ e. ne (sym e))) in
+    subst (Goal v) (sym (ne-eqb u v ne)) at) (cases-eq u v)))
 
 -- ---- the rows that a search is handed
 
@@ -110,9 +110,9 @@ pub held-stands :
 held-stands p rows part u b x lt ex cut long ef is =
     let r : Pairs = held-to (λ v c. pairs (p .fitted) v c && not (pairs (p .struck) v c)) u b in
     let all : pairs rows ≡ r =
-        fun-ext (λ v. fun-ext (λ c. is v c ∙ ap (λ y. pairs (set (p .fitted) u y) v c && not (pairs (p .struck) v c)) ex)) ∙ narrowed (p .fitted) (p .struck) u b lt in
+    fun-ext (λ v. fun-ext (λ c. is v c ∙ ap (λ y. pairs (set (p .fitted) u y) v c && not (pairs (p .struck) v c)) ex)) ∙ narrowed (p .fitted) (p .struck) u b lt in
     let at : (v c : ℕ) → pairs rows v c ≡ (pairs (p .fitted) v c && (pairs rows v c)) =
-        λ v c. ap (λ f. f v c) all ∙ held-inside (pairs (p .fitted) v c) (pairs (p .struck) v c) (eqb u v) (eqb b c) ∙ ap (λ t. pairs (p .fitted) v c && t) (sym (ap (λ f. f v c) all)) in
+    λ v c. ap (λ f. f v c) all ∙ held-inside (pairs (p .fitted) v c) (pairs (p .struck) v c) (eqb u v) (eqb b c) ∙ ap (λ t. pairs (p .fitted) v c && t) (sym (ap (λ f. f v c) all)) in
     stands p rows part (held-to (open-pairs (view p)) u b) cut long (all ∙ ap (λ y. held-to y u b) (sym (open-is p ef)))
     (both-inside (p .bays) (p .fitted) rows (pairs rows) (p .«fitted_inside») at)
     (both-blank (p .units) (p .fitted) rows (pairs rows) (p .«fitted_blank») at)
@@ -217,9 +217,10 @@ module _ (p : Plan) (s : Setting) (part : List ℕ) (r : Pairs) (o : Option (Lis
     where
       go : (f : Option (List ℕ)) → Answers (Looked s part o) f → Err (NoPlacement t) ≡ answer-with f (walk s o part .tries) → ((w : List ℕ) → Wanted s r o w → ⊥) × (t ≡ tries-in (view p) s r o)
       go (Some w) a h = let z : _≡_ {A = ℕ} 0 1 = cc in absurd (omega arith)
-      go None a h =
-          (λ w q. a w (from-wanted s part o w (subst (λ x. Wanted s x o w) (sym (y .stands .pairs-are)) q)),
-           (let same : t ≡ told (walk s o part .tries) = cc in same) ∙ tries-are)
+      go None a h = (
+        λ w q. a w (from-wanted s part o w (subst (λ x. Wanted s x o w) (sym (y .stands .pairs-are)) q)),
+        (let same : t ≡ told (walk s o part .tries) = cc in same) ∙ tries-are,
+      )
 
   pub not-ill : Err IllShaped ≡ answer-of ok (walk s o part) → ⊥
   not-ill e = go (walk s o part .found) (told-is (Err IllShaped) e)
@@ -244,8 +245,8 @@ pub held-ready :
     → ((v c : ℕ) → pairs rows v c ≡ (pairs (set (p .fitted) u x) v c && not (pairs (p .struck) v c))) → Ready p s (take (p .units - 0) rows) (held-to (open-pairs (view p)) u b)
 held-ready p s rows u b x long lt lb ex ef ea er is = record {
   stands =
-    held-stands p rows (take (p .units - 0) rows) u b x lt (ex ∙ ap (bitAnd (getD (p .fitted) u 0)) (one-shl b 64 (let f = p .«few_bays» in omega arith)))
-    (ap (λ k. take k rows) (let e : p .units - 0 ≡ p .units = omega arith in e)) long ef is;
+      held-stands p rows (take (p .units - 0) rows) u b x lt (ex ∙ ap (bitAnd (getD (p .fitted) u 0)) (one-shl b 64 (let f = p .«few_bays» in omega arith)))
+      (ap (λ k. take k rows) (let e : p .units - 0 ≡ p .units = omega arith in e)) long ef is;
   units = ea;
   bays = er;
 }
@@ -290,11 +291,11 @@ found-step p q s o out b c look ea er x t first et eu eb es ef er′ el ebuf =
     let w = take (p .units) x in
     let finding : find-in (view p) s o ≡ Some w = finding-is p s o (Some w) ea er first in
     let last : shortened (q .units) (q .last) ≡ newest (find-in (view p) s o) (shortened (p .units) (p .last)) =
-        ap₂ shortened eu el ∙ sym (ap (λ z. newest z (shortened (p .units) (p .last))) finding) in
+    ap₂ shortened eu el ∙ sym (ap (λ z. newest z (shortened (p .units) (p .last))) finding) in
     accepted-step p q c (found t) b (look .accepts)
     ((λ i. of (eu i) (eb i) (pairs (es i)) (fitting (ef i) (er′ i)) (last i)) ∙ sym (look .makes))
     (look .answers (found t) b
-      (inl (w, first, ap found et, ebuf ∙ ap (λ k. w ++ drop k out) (sym (first .holds .placed .whole ∙ ea)))))
+    (inl (w, first, ap found et, ebuf ∙ ap (λ k. w ++ drop k out) (sym (first .holds .placed .whole ∙ ea)))))
     (λ e. absurd (false≢true e))
 
 pub lost-step :

@@ -4,13 +4,16 @@ use mathlib.Core.Bool.{true, false, false≢true}
 use mathlib.Core.Logic.{_⊎_, ⊎-elim}
 use mathlib.Core.List.{List, [], _∷_}
 use Prim.Native.Nat.{ℕ, _≤_}
+use native.Mathlib.Omega.{arith}
 use lib.ListN.{length, getD, replicate}
+use lib.Pow.{pow-pos}
 use Rattle.std.proofs.shelf.Lists.{getD-replicate, length-replicate, getD-past}
 use Rattle.std.proofs.shelf.Tests.{cases-lt, le-ltb, or-from, cond-false}
 use Rattle.std.specs.declared.option.Option.{Option}
 use Rattle.std.specs.declared.option.Option.the-variants.{None}
 use Rattle.graphs.specs.Rows.{bit, Pairs, pairs}
 use Rattle.graphs.proofs.Bits.{bit-none}
+use Rattle.tables.specs.Shape.{Inside, Blank}
 use Rattle.ledgers.specs.Calls.{Call, begin, Refusal, Answer, done, refused, buffer-of}
 use Rattle.ledgers.specs.Ledger.{Ledger, Fitting, begun, no-pairs, Verdict, accepted, declined, verdict, made, by-verdict}
 use Rattle.ledgers.specs.Answered.{Answered, Judged}
@@ -60,6 +63,12 @@ zeros k u = ⊎-elim (λ lt. getD-replicate k u 0 0 lt) (λ ge. let past : lengt
 
 pub blank-pairs : (u b : ℕ) → pairs blank-rows u b ≡ false
 blank-pairs u b = ap (λ x. bit x b) (zeros 24 u) ∙ bit-none b
+
+pub blank-inside : (n : ℕ) → Inside n blank-rows
+blank-inside n u = let z = zeros 24 u in let p = pow-pos n in omega (arith, z, p)
+
+pub blank-blank : (m : ℕ) → Blank m blank-rows
+blank-blank m u le = zeros 24 u
 
 pub view-begun : (q : Plan) (m n : ℕ) → q .units ≡ m → q .bays ≡ n → q .struck ≡ blank-rows → q .fit ≡ false → q .last ≡ None → view q ≡ begun m n no-pairs
 view-begun q m n eu eb es ef el =

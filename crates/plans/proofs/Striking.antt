@@ -45,15 +45,15 @@ changed :
 changed rows u b x F lt keeps at =
     fun-ext
     (λ v. fun-ext (λ c.
-        let Goal : ℕ → Bool → Type 0 = λ w t. bit (getD (set rows u x) w 0) c ≡ F (bit (getD rows w 0) c) (t && eqb b c) in
-        ⊎-elim
-        (λ e.
-          let here : Goal u true = ap (λ y. bit y c) (getD-set-same rows u x 0 lt) ∙ at c in
-          let there : Goal v true = subst (λ w. Goal w true) e here in
-          subst (Goal v) (sym (eq-eqb u v e)) there)
-        (λ ne.
-          let away : Goal v false = ap (λ y. bit y c) (getD-set-other rows u v x 0 (λ e. ne (sym e))) ∙ sym (keeps (bit (getD rows v 0) c)) in
-          subst (Goal v) (sym (ne-eqb u v ne)) away) (cases-eq u v)))
+    let Goal : ℕ → Bool → Type 0 = λ w t. bit (getD (set rows u x) w 0) c ≡ F (bit (getD rows w 0) c) (t && eqb b c) in
+    ⊎-elim
+    (λ e.
+    let here : Goal u true = ap (λ y. bit y c) (getD-set-same rows u x 0 lt) ∙ at c in
+    let there : Goal v true = subst (λ w. Goal w true) e here in
+    subst (Goal v) (sym (eq-eqb u v e)) there)
+    (λ ne.
+    let away : Goal v false = ap (λ y. bit y c) (getD-set-other rows u v x 0 (λ e. ne (sym e))) ∙ sym (keeps (bit (getD rows v 0) c)) in
+    subst (Goal v) (sym (ne-eqb u v ne)) away) (cases-eq u v)))
 
 abbrev one-bay : ℕ → ℕ
 one-bay b = (1 * 2 ^ b) % 18446744073709551616
@@ -66,8 +66,8 @@ strike-step p q u b hu hb lt out eu eb es ef er el =
     let l64 : b < 64 = (let f = p .«few_bays» in omega arith) in
     let row = getD (p .struck) u 0 in
     let now : pairs (q .struck) ≡ (λ v c. pairs (p .struck) v c || one-pair u b v c) =
-        ap pairs es ∙ changed (p .struck) u b (bitOr row (one-bay b)) (λ s t. s || t) lt or-false
-        (λ c. bit-or row (one-bay b) c ∙ ap (λ y. bit row c || y) (ap (λ x. bit x c) (one-shl b 64 l64) ∙ bit-one b c)) in
+    ap pairs es ∙ changed (p .struck) u b (bitOr row (one-bay b)) (λ s t. s || t) lt or-false
+    (λ c. bit-or row (one-bay b) c ∙ ap (λ y. bit row c || y) (ap (λ x. bit x c) (one-shl b 64 l64) ∙ bit-one b c)) in
     done-step p q (strike u b)
     (cond-false _ _ _ (inside-is (view p) u b hu hb) ∙ cond-false _ _ _ out)
     (λ i. of (eu i) (eb i) (now i) (fitting (ef i) (er i)) (shortened (eu i) (el i)))
@@ -81,8 +81,8 @@ free-step p q u b hu hb lt low held eu eb es ef er el =
     let l64 : b < 64 = (let f = p .«few_bays» in omega arith) in
     let row = getD (p .struck) u 0 in
     let now : pairs (q .struck) ≡ (λ v c. pairs (p .struck) v c && not (one-pair u b v c)) =
-        ap pairs es ∙ changed (p .struck) u b (bitAnd row (18446744073709551615 - one-bay b)) (λ s t. s && not t) lt and-true
-        (λ c. bit-without row (one-bay b) c low (omega arith) ∙ ap (λ y. bit row c && not y) (ap (λ x. bit x c) (one-shl b 64 l64) ∙ bit-one b c)) in
+    ap pairs es ∙ changed (p .struck) u b (bitAnd row (18446744073709551615 - one-bay b)) (λ s t. s && not t) lt and-true
+    (λ c. bit-without row (one-bay b) c low (omega arith) ∙ ap (λ y. bit row c && not y) (ap (λ x. bit x c) (one-shl b 64 l64) ∙ bit-one b c)) in
     done-step p q (free u b)
     (cond-false _ _ _ (inside-is (view p) u b hu hb) ∙ cond-false _ _ _ (not-from-true _ held))
     (λ i. of (eu i) (eb i) (now i) (fitting (ef i) (er i)) (shortened (eu i) (el i)))

@@ -116,20 +116,20 @@ pub record Law : Type 0 where
   pub what-ifs :
       (u v : ℕ) (s : Setting) (a : Answer) (b : List ℕ) (x : Next (what-if u v s) a b) → verdict (was x) (what-if u v s) ≡ accepted
       → ((Some-has (was x) s u v × (a ≡ yes (tries-in (was x) s (held-to (open-pairs (was x)) u v) None)))
-         ⊎ ((Some-has (was x) s u v → ⊥) × (a ≡ none (tries-in (was x) s (held-to (open-pairs (was x)) u v) None))))
-        × Unchanged x
+      ⊎ ((Some-has (was x) s u v → ⊥) × (a ≡ none (tries-in (was x) s (held-to (open-pairs (was x)) u v) None))))
+      × Unchanged x
   -- a tally is the number of pairs not struck: units times bays, less those that the latest start struck, less the strikes
   -- accepted since then, and the frees accepted since then more
   pub tallies :
       (a : Answer) (b : List ℕ) (x : Next tally a b)
       → (k : ℕ) × (a ≡ number k) × (k ≡ how-many (was x .units) (was x .bays) (λ u v. not (was x .struck u v)))
-        × (k + (counted (calls (x .turns)) .starts + counted (calls (x .turns)) .strikes) ≡ was x .units * was x .bays + counted (calls (x .turns)) .frees)
-        × Unchanged x
+      × (k + (counted (calls (x .turns)) .starts + counted (calls (x .turns)) .strikes) ≡ was x .units * was x .bays + counted (calls (x .turns)) .frees)
+      × Unchanged x
   -- a save writes the saved form of the sizes and strikes, where the buffer has room
   pub saves :
       (out : List ℕ) (a : Answer) (b : List ℕ) (x : Next (save out) a b)
       → ((length out < length (form-of (was x))) × (a ≡ refused (rule NoRoom)) × (b ≡ out) × Unchanged x)
-        ⊎ ((length (form-of (was x)) ≤ length out) × (a ≡ number (length (form-of (was x)))) × (b ≡ over (form-of (was x)) out) × Unchanged x)
+      ⊎ ((length (form-of (was x)) ≤ length out) × (a ≡ number (length (form-of (was x)))) × (b ≡ over (form-of (was x)) out) × Unchanged x)
   -- in two runs whose calls differ only in what-ifs, the other calls answer and write alike, and the plans hold the same
   pub alike :
       (s t : List Turn) (p q : Plan) → Run s p → Run t q → calls (others s) ≡ calls (others t) → (others s ≡ others t) × (view p ≡ view q)
@@ -137,12 +137,12 @@ pub record Law : Type 0 where
   pub opened-is-saved :
       (l : Ledger) (bs : List ℕ) (m n : ℕ) (s : Pairs) → Shows («open» bs)
       → ((verdict l («open» bs) ≡ accepted) × (made l («open» bs) ≡ begun m n s) → Ranged m n s × (bs ≡ saved-form m n s))
-        × (Ranged m n s × (bs ≡ saved-form m n s) → (verdict l («open» bs) ≡ accepted) × (made l («open» bs) ≡ begun m n s))
+      × (Ranged m n s × (bs ≡ saved-form m n s) → (verdict l («open» bs) ≡ accepted) × (made l («open» bs) ≡ begun m n s))
   -- what a run's plan saves opens to its sizes and strikes
   pub saved-opens :
       (t : List Turn) (p : Plan) → Run t p → (l : Ledger)
       → (verdict l («open» (form-of (ledger (calls t)))) ≡ accepted)
-        × (made l («open» (form-of (ledger (calls t)))) ≡ begun (ledger (calls t) .units) (ledger (calls t) .bays) (ledger (calls t) .struck))
+      × (made l («open» (form-of (ledger (calls t)))) ≡ begun (ledger (calls t) .units) (ledger (calls t) .bays) (ledger (calls t) .struck))
   -- the ledger's find is the first, and none where there is none
   pub find-is-first : (l : Ledger) (s : Setting) (o : Option (List ℕ)) → other-counts l s ≡ false → Answers (Open l s o) (find-in l s o)
   -- every run can go on with every call

@@ -36,6 +36,14 @@ pub record Same (p q : Plan) : Type 0 where
   pub fitted : p .fitted ≡ q .fitted
   pub last : p .last ≡ q .last
 
+-- a plan as it stands at a start, with these sizes and strikes
+pub record Started (m n : ℕ) (rows : List ℕ) (q : Plan) : Type 0 where
+  pub units : q .units ≡ m
+  pub bays : q .bays ≡ n
+  pub struck : q .struck ≡ rows
+  pub fit : q .fit ≡ false
+  pub last : q .last ≡ None
+
 -- a call, what it answered, and the buffer at its return
 pub record Turn : Type 0 where
   pub call : Call

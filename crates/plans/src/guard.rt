@@ -15,6 +15,10 @@ impl Drop for Narrowed<'_> {
         ensures { λ _. ⌜ now (self .exit .0) ≡ set (now (self .entry .rows)) (self .entry .unit) (self .entry .saved) ⌝ }
     {
         self.rows[self.unit] = self.saved;
-        let Narrowed { rows: _, unit: _, saved: _ } = self;
+        let Narrowed {
+            rows: _,
+            unit: _,
+            saved: _,
+        } = self;
     }
 }

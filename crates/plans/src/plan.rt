@@ -6,7 +6,6 @@ ghost use Rattle.plans.specs.Bounds.{Low, bays-in};
 pub mod calls;
 pub mod searches;
 
-
 // Its sizes, the struck pairs, the fitted pairs where there is a fit, and the last answer; rows past the units and bits past the
 // bays are zero.
 #[derive(Drop)]

@@ -55,14 +55,15 @@ plan-exact = turned-exact (λ p. p .1) (λ f. (2 ∷ [], f)) to from (alone-exac
     to p l =
         let all = and-parts _ _ (l .1 .1) in
         let units = and-parts _ _ (all .0) in
-        let bays = and-parts _ _ (all .1) in
-        (ap (λ (bs : List ℕ). (bs, p .1)) (one-byte (p .0) (l .0)),
-         record {
-           table = l .1 .0;
-           some-units = leb-true 1 (length (p .1 .rows)) (units .0);
-           few-units = leb-true (length (p .1 .rows)) 24 (units .1);
-           some-bays = leb-true 1 (p .1 .columns) (bays .0);
-         })
+        let bays = and-parts _ _ (all .1) in (
+          ap (λ (bs : List ℕ). (bs, p .1)) (one-byte (p .0) (l .0)),
+          record {
+            table = l .1 .0;
+            some-units = leb-true 1 (length (p .1 .rows)) (units .0);
+            few-units = leb-true (length (p .1 .rows)) 24 (units .1);
+            some-bays = leb-true 1 (p .1 .columns) (bays .0);
+          },
+        )
 
     from : (f : Form) → PlanLawful f → (f ≡ f) × (FormLawful (2 ∷ []) × StruckLawful f)
     from f l = (refl, (((refl, two-is-byte), refl), (l .table, sized-true f l)))
@@ -83,9 +84,10 @@ pub plan-opened : (bs : List ℕ) (f : Form) → Bytes bs → read-plan bs 0 ≡
 plan-opened bs f B h =
     let a = and-then-ok (plan-part bs 0) _ f h in
     let same : a .0 .0 ≡ f = same-ok (a .2) in
-    let g = plan-exact .only bs 0 B (a .0 .0) (a .0 .1) (a .1) in
-    (subst PlanLawful same (g .lawful),
-     g .form ∙ ap (λ t. plan-bytes (a .0 .0) ++ t) (g .follows) ∙ append-nil (plan-bytes (a .0 .0)) ∙ ap plan-bytes same)
+    let g = plan-exact .only bs 0 B (a .0 .0) (a .0 .1) (a .1) in (
+      subst PlanLawful same (g .lawful),
+      g .form ∙ ap (λ t. plan-bytes (a .0 .0) ++ t) (g .follows) ∙ append-nil (plan-bytes (a .0 .0)) ∙ ap plan-bytes same,
+    )
   where
     same-ok : {x y : Form} → _≡_ {A = Result Form PlanFault} (Ok x) (Ok y) → x ≡ y
     same-ok e = cc

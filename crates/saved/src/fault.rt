@@ -2,7 +2,6 @@ ghost use mathlib.Core.Path.{_≡_};
 ghost use Rattle.refusals.specs.Numbers.{told};
 ghost use Rattle.saved.specs.Told.{plan-told};
 ghost use Rattle.saved.specs.declared.fault.PlanFault.the-variants.{Table as InPlan};
-
 use refusals::Reason;
 use refusals::Told;
 use tables::TableFault;

@@ -11,3 +11,4 @@ pub mod Steps
 pub mod Going
 pub mod Answered
 pub mod Counted
+pub mod Alike

@@ -12,11 +12,11 @@ use Rattle.graphs.specs.Rows.{pairs}
 use Rattle.graphs.specs.Graph.{Graph, Sound}
 use Rattle.placements.specs.Placement.{Placement, Within}
 use Rattle.placements.specs.Order.{Before, IsFirst, Answers}
-use Rattle.filters.specs.Filter.{Lawful, shaped}
+use Rattle.filters.specs.Filter.{Meaning, Lawful, shaped}
 use Rattle.search.specs.declared.Find.{Find}
 use Rattle.search.specs.declared.SearchError.{SearchError}
 use Rattle.search.specs.declared.SearchError.the-variants.{IllShaped, NoPlacement}
-use Rattle.search.specs.Walk.{Setting, Outcome, walk}
+use Rattle.search.specs.Walk.{Setting, setting, Outcome, walk}
 
 -- the tries as they are answered: their count stops at 4294967295
 abbrev pub told : ℕ → ℕ
@@ -68,3 +68,9 @@ Finds-next =
     (w : Setting) (rows last : List ℕ) → Lawful (w .filter) → Sound (w .arrangement) → Sound (w .room)
     → shaped (w .arrangement) (w .room) rows ≡ true
     → Answers (SoughtAfter (w .arrangement) (w .room) (w .strict) rows last) (walk w (Some last) rows .found)
+
+-- Any two lawful filters find the same placement.
+abbrev pub Filters-alike : Type 0
+Filters-alike =
+    (a r : Graph) (strict : Bool) (f g : Meaning) (last : Option (List ℕ)) (rows : List ℕ) → Lawful f → Lawful g → Sound a → Sound r
+    → shaped a r rows ≡ true → walk (setting a r strict f) last rows .found ≡ walk (setting a r strict g) last rows .found

@@ -10,7 +10,8 @@ ghost use Rattle.placements.specs.Agreement.{agrees-if};
 ghost use Rattle.filters.specs.Filter.{shaped};
 ghost use Rattle.search.specs.Masks.{picked};
 ghost use Rattle.search.specs.Walk.{any-empty, narrowed, after-try, offered, chosen, setting, settle, walk, walk-from, LeftBy};
-ghost use Rattle.search.specs.Found.{padded, padded-found, answer-with, answer-of, Sought, SoughtAfter, Searched, Finds-first, Finds-next};
+ghost use Rattle.search.specs.Found.{padded, padded-found, answer-with, answer-of, Sought, SoughtAfter, Searched, Finds-first, Finds-next, Filters-alike};
+ghost use Rattle.placements.specs.Morphisms.{OpenIsMono, StrictIsInduced};
 ghost use Rattle.search.specs.Tries.{Counts-tries};
 use filters::Filter;
 use filters::well_shaped;
@@ -267,6 +268,9 @@ pub fn first<A: Source, R: Source, F: Filter>(
     ensures first { λ r. ⌜ (shaped (A·Source .graph (now (arrangement .entry))) (R·Source .graph (now (room .entry))) (now (rows .entry)) ≡ true → Searched (Sought (A·Source .graph (now (arrangement .entry))) (R·Source .graph (now (room .entry))) strict (now (rows .entry))) (length (now (rows .entry))) (walk (setting (A·Source .graph (now (arrangement .entry))) (R·Source .graph (now (room .entry))) strict (F·Filter .left (now (filter .entry)))) None (now (rows .entry)) .tries) r) ⌝ }
     ensures theorem { λ _. ⌜ Finds-first ⌝ }
     ensures counted { λ _. ⌜ Counts-tries ⌝ }
+    ensures alike { λ _. ⌜ Filters-alike ⌝ }
+    ensures monomorphisms { λ _. ⌜ OpenIsMono ⌝ }
+    ensures induced { λ _. ⌜ StrictIsInduced ⌝ }
 {
     if !well_shaped(arrangement, room, rows) {
         return Err(SearchError::IllShaped);

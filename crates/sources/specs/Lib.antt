@@ -1,3 +1,4 @@
+pub mod Drawn
 pub mod Faults
 pub mod Taking
 pub mod Pairs

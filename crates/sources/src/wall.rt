@@ -6,19 +6,23 @@ ghost use lib.Dec.{eqb};
 ghost use Rattle.graphs.specs.Rows.{bit, row-of};
 ghost use Rattle.graphs.specs.WallGrid.{wall-graph, wall-joined, WallLawful};
 ghost use Rattle.graphs.proofs.Walls.{wall-sound, wall-symmetric};
+ghost use Rattle.sources.specs.Drawn.{Drawn};
 ghost use Rattle.sources.specs.Faults.{Looked-over};
 ghost use Rattle.sources.specs.Taking.{Taken};
 use crate::fault::JointFault;
 use graphs::Source;
 
-// Node `level * columns + column` is joined to its neighbours on its level and to those directly above and below.
+// Node `level * columns + column` is joined to its neighbours on its level and to those directly above and below. The rows are
+// worked out once, so that a search does not divide for each node that it asks about.
 #[derive(Clone, Copy)]
 pub struct WallGrid {
     columns: usize,
     levels: usize,
+    rows: [u64; 64],
     ghost wide: { 1 ≤ columns },
     ghost high: { 1 ≤ levels },
     ghost few: { columns * levels ≤ 64 },
+    ghost drawn: { Drawn columns levels rows },
 }
 
 impl WallGrid {
@@ -36,28 +40,63 @@ impl WallGrid {
         ensures { λ r. ⌜ Taken (WallLawful columns levels) (wall-graph columns levels) (wall-graph (r .columns) (r .levels)) ⌝ }
     {
         match WallGrid::look_over(columns, levels) {
-            Ok(()) => WallGrid { columns, levels },
-            Err(_) => WallGrid {
-                columns: 1,
-                levels: 1,
-            },
+            Ok(()) => WallGrid::lawful(columns, levels),
+            Err(_) => WallGrid::lawful(1, 1),
+        }
+    }
+
+    fn lawful(columns: usize, levels: usize) -> WallGrid
+        requires wide { ⌜ 1 ≤ columns ⌝ }
+        requires high { ⌜ 1 ≤ levels ⌝ }
+        requires few { ⌜ columns * levels ≤ 64 ⌝ }
+        ensures { λ r. ⌜ (r .columns ≡ columns) × (r .levels ≡ levels) ⌝ }
+    {
+        let rows = drawn_rows(columns, levels);
+        WallGrid {
+            columns,
+            levels,
+            rows,
         }
     }
 
     // The nodes that `a` is joined to.
-    fn neighbours(&self, a: usize) -> u64
+    fn row_at(&self, a: usize) -> u64
         ensures { λ r. ⌜ r ≡ row-of (now (self .entry) .columns * now (self .entry) .levels) (wall-joined (now (self .entry) .columns) (now (self .entry) .columns * now (self .entry) .levels) a) ⌝ }
     {
-        let count = self.columns * self.levels;
-        if a >= count {
-            return 0;
-        }
-        let column = a % self.columns;
-        let left = with_node(0, column > 0, a.saturating_sub(1));
-        let level = with_node(left, column + 1 < self.columns, a + 1);
-        let below = with_node(level, a >= self.columns, a.saturating_sub(self.columns));
-        with_node(below, a + self.columns < count, a + self.columns)
+        if a < 64 { self.rows[a] } else { 0 }
     }
+}
+
+// The nodes that `a` is joined to.
+fn neighbours(columns: usize, levels: usize, a: usize) -> u64
+    requires wide { ⌜ 1 ≤ columns ⌝ }
+    requires high { ⌜ 1 ≤ levels ⌝ }
+    requires few { ⌜ columns * levels ≤ 64 ⌝ }
+    ensures { λ r. ⌜ r ≡ row-of (columns * levels) (wall-joined columns (columns * levels) a) ⌝ }
+{
+    let count = columns * levels;
+    if a >= count {
+        return 0;
+    }
+    let column = a % columns;
+    let left = with_node(0, column > 0, a.saturating_sub(1));
+    let level = with_node(left, column + 1 < columns, a + 1);
+    let below = with_node(level, a >= columns, a.saturating_sub(columns));
+    with_node(below, a + columns < count, a + columns)
+}
+
+// The rows of all nodes.
+fn drawn_rows(columns: usize, levels: usize) -> [u64; 64]
+    requires wide { ⌜ 1 ≤ columns ⌝ }
+    requires high { ⌜ 1 ≤ levels ⌝ }
+    requires few { ⌜ columns * levels ≤ 64 ⌝ }
+    ensures { λ r. ⌜ Drawn columns levels r ⌝ }
+{
+    let mut rows = [0; 64];
+    for a in 0..64 {
+        rows[a] = neighbours(columns, levels, a);
+    }
+    rows
 }
 
 pub impl Source for WallGrid as WallGridSource {
@@ -84,12 +123,12 @@ pub impl Source for WallGrid as WallGridSource {
     }
 
     fn row(&self, a: usize) -> u64 {
-        self.neighbours(a)
+        self.row_at(a)
     }
 
     // Joints hold both ways.
     fn column(&self, b: usize) -> u64 {
-        self.neighbours(b)
+        self.row_at(b)
     }
 }
 

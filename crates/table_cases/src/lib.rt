@@ -52,8 +52,14 @@ mod tests {
         check_eq(table_refusal(&[64], 0), Some((11, 1, 1)))?;
         check_eq(table_refusal(&[64, 65], 0), Some((13, 1, 1)))?;
         check_eq(table_refusal(&[0, 0, 1], 0), Some((11, 1, 3)))?;
-        check_eq(table_refusal(&[0, 0, 1, 0, 0, 0, 0, 0, 0, 0], 0), Some((14, 1, 2)))?;
-        check_eq(table_refusal(&[63, 64, 1, 0, 0, 0, 0, 0, 0, 128], 0), Some((14, 1, 9)))?;
+        check_eq(
+            table_refusal(&[0, 0, 1, 0, 0, 0, 0, 0, 0, 0], 0),
+            Some((14, 1, 2)),
+        )?;
+        check_eq(
+            table_refusal(&[63, 64, 1, 0, 0, 0, 0, 0, 0, 128], 0),
+            Some((14, 1, 9)),
+        )?;
         check_eq(table_refusal(&[9, 9, 7, 64], 2), Some((11, 1, 4)))?;
         check_eq(table_refusal(&[9, 9, 7, 65], 3), Some((13, 1, 3)))?;
         check_eq(table_refusal(&[9, 9], 7), Some((11, 1, 2)))
@@ -77,10 +83,22 @@ mod tests {
         check_eq(plan_refusal(&[3], 0), Some((12, 2, 0)))?;
         check_eq(plan_refusal(&[2], 0), Some((11, 1, 1)))?;
         check_eq(plan_refusal(&[2, 65], 0), Some((13, 1, 1)))?;
-        check_eq(plan_refusal(&[2, 0, 1, 0, 0, 0, 0, 0, 0, 0, 0, 9], 0), Some((1, 2, 1)))?;
-        check_eq(plan_refusal(&[2, 25, 1, 0, 0, 0, 0, 0, 0, 0, 0], 0), Some((1, 2, 1)))?;
-        check_eq(plan_refusal(&[7, 2, 1, 0, 0, 0, 0, 0, 0, 0, 0, 0], 1), Some((1, 2, 2)))?;
-        check_eq(plan_refusal(&[2, 1, 1, 0, 0, 0, 0, 0, 0, 0, 0, 9], 0), Some((17, 2, 11)))?;
+        check_eq(
+            plan_refusal(&[2, 0, 1, 0, 0, 0, 0, 0, 0, 0, 0, 9], 0),
+            Some((1, 2, 1)),
+        )?;
+        check_eq(
+            plan_refusal(&[2, 25, 1, 0, 0, 0, 0, 0, 0, 0, 0], 0),
+            Some((1, 2, 1)),
+        )?;
+        check_eq(
+            plan_refusal(&[7, 2, 1, 0, 0, 0, 0, 0, 0, 0, 0, 0], 1),
+            Some((1, 2, 2)),
+        )?;
+        check_eq(
+            plan_refusal(&[2, 1, 1, 0, 0, 0, 0, 0, 0, 0, 0, 9], 0),
+            Some((17, 2, 11)),
+        )?;
         check_eq(plan_refusal(&[2, 1, 1, 0, 0, 0, 0, 0, 0, 0, 0], 0), None)
     }
 

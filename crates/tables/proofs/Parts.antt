@@ -39,23 +39,23 @@ cond-not-ok false x y e h = (refl, ok-same h)
 module _ {X E : Type 0} {Lawful : X → Type 0} {read : Reader X E} (write : X → List ℕ)
     (back : (x : X) → Lawful x → (input : List ℕ) (at : ℕ) (rest : List ℕ) → Anything rest → drop at input ≡ write x ++ rest → read input at ≡ Ok (x, at + length (write x)))
   where
-  -- two forms of which one begins the other are one
-  pub same-front : (x y : X) → Lawful x → Lawful y → (a b : List ℕ) → write x ++ a ≡ write y ++ b → x ≡ y
-  same-front x y l m a b e =
-      let one : read (write x ++ a) 0 ≡ Ok (x, 0 + length (write x)) = back x l (write x ++ a) 0 a tt refl in
-      let two : read (write x ++ a) 0 ≡ Ok (y, 0 + length (write y)) = back y m (write x ++ a) 0 b tt e in
-      ap (λ p. p .0) (ok-same (sym one ∙ two))
+    -- two forms of which one begins the other are one
+    pub same-front : (x y : X) → Lawful x → Lawful y → (a b : List ℕ) → write x ++ a ≡ write y ++ b → x ≡ y
+    same-front x y l m a b e =
+        let one : read (write x ++ a) 0 ≡ Ok (x, 0 + length (write x)) = back x l (write x ++ a) 0 a tt refl in
+        let two : read (write x ++ a) 0 ≡ Ok (y, 0 + length (write y)) = back y m (write x ++ a) 0 b tt e in
+        ap (λ p. p .0) (ok-same (sym one ∙ two))
 
-  pub exact-of : ((input : List ℕ) (at : ℕ) → Bytes input → (x : X) (next : ℕ) → read input at ≡ Ok (x, next) → Holds Lawful Anything write input at x next)
-      → Exact Lawful Anything read write
-  exact-of only = record { back = back; only = only; whole = whole }
-    where
-      whole : (x : X) → Lawful x → (input : List ℕ) (at : ℕ) → Bytes input → (b : ℕ) (more : List ℕ) → write x ≡ drop at input ++ b ∷ more → (p : X × ℕ) → read input at ≡ Ok p → ⊥
-      whole x l input at B b more e p h =
-          let g : Holds Lawful Anything write input at (p .0) (p .1) = only input at B (p .0) (p .1) h in
-          let f : write x ≡ write (p .0) ++ (drop (p .1) input ++ b ∷ more) = e ∙ ap (λ s. s ++ b ∷ more) (g .form) ∙ append-assoc (write (p .0)) (drop (p .1) input) (b ∷ more) in
-          let same : x ≡ p .0 = same-front x (p .0) l (g .lawful) [] (drop (p .1) input ++ b ∷ more) (append-nil (write x) ∙ f) in
-          omega (arith, ap length f, ap (λ y. length (write y)) same, length-append (write (p .0)) (drop (p .1) input ++ b ∷ more), length-append (drop (p .1) input) (b ∷ more))
+    pub exact-of : ((input : List ℕ) (at : ℕ) → Bytes input → (x : X) (next : ℕ) → read input at ≡ Ok (x, next) → Holds Lawful Anything write input at x next)
+        → Exact Lawful Anything read write
+    exact-of only = record { back = back; only = only; whole = whole }
+      where
+        whole : (x : X) → Lawful x → (input : List ℕ) (at : ℕ) → Bytes input → (b : ℕ) (more : List ℕ) → write x ≡ drop at input ++ b ∷ more → (p : X × ℕ) → read input at ≡ Ok p → ⊥
+        whole x l input at B b more e p h =
+            let g : Holds Lawful Anything write input at (p .0) (p .1) = only input at B (p .0) (p .1) h in
+            let f : write x ≡ write (p .0) ++ (drop (p .1) input ++ b ∷ more) = e ∙ ap (λ s. s ++ b ∷ more) (g .form) ∙ append-assoc (write (p .0)) (drop (p .1) input) (b ∷ more) in
+            let same : x ≡ p .0 = same-front x (p .0) l (g .lawful) [] (drop (p .1) input ++ b ∷ more) (append-nil (write x) ∙ f) in
+            omega (arith, ap length f, ap (λ y. length (write y)) same, length-append (write (p .0)) (drop (p .1) input ++ b ∷ more), length-append (drop (p .1) input) (b ∷ more))
 
 -- ---- one part behind another
 
@@ -63,62 +63,63 @@ module _ {X Y E : Type 0} {Lawful₁ : X → Type 0} {Lawful₂ : X → Y → Ty
     {first : Reader X E} {second : X → Reader Y E} {write₁ : X → List ℕ} {write₂ : X → Y → List ℕ}
     (one : Exact Lawful₁ Anything first write₁) (two : (x : X) → Lawful₁ x → Exact (Lawful₂ x) Follows (second x) (write₂ x))
   where
-  abbrev Both : X × Y → Type 0
-  Both p = Lawful₁ (p .0) × Lawful₂ (p .0) (p .1)
+    abbrev Both : X × Y → Type 0
+    Both p = Lawful₁ (p .0) × Lawful₂ (p .0) (p .1)
 
-  after-parts : (input : List ℕ) (at : ℕ) (p : X × Y) (next : ℕ) → after first second input at ≡ Ok (p, next)
-      → (mid : ℕ) × (first input at ≡ Ok (p .0, mid)) × (second (p .0) input mid ≡ Ok (p .1, next))
-  after-parts input at p next h =
-      let a = and-then-ok (first input at) _ (p, next) h in
-      let b = and-then-ok (second (a .0 .0) input (a .0 .1)) _ (p, next) (a .2) in
-      let e : _≡_ {A = (X × Y) × ℕ} ((a .0 .0, b .0 .0), b .0 .1) (p, next) = ok-same (b .2) in
-      let ex : a .0 .0 ≡ p .0 = ap (λ q. q .0 .0) e in
-      let ey : b .0 .0 ≡ p .1 = ap (λ q. q .0 .1) e in
-      let en : b .0 .1 ≡ next = ap (λ q. q .1) e in
-      (a .0 .1,
-       a .1 ∙ ap (λ x. Ok (x, a .0 .1)) ex,
-       ap (λ x. second x input (a .0 .1)) (sym ex) ∙ b .1 ∙ ap (λ y. Ok (y, b .0 .1)) ey ∙ ap (λ n. Ok (p .1, n)) en)
+    after-parts : (input : List ℕ) (at : ℕ) (p : X × Y) (next : ℕ) → after first second input at ≡ Ok (p, next)
+        → (mid : ℕ) × (first input at ≡ Ok (p .0, mid)) × (second (p .0) input mid ≡ Ok (p .1, next))
+    after-parts input at p next h =
+        let a = and-then-ok (first input at) _ (p, next) h in
+        let b = and-then-ok (second (a .0 .0) input (a .0 .1)) _ (p, next) (a .2) in
+        let e : _≡_ {A = (X × Y) × ℕ} ((a .0 .0, b .0 .0), b .0 .1) (p, next) = ok-same (b .2) in
+        let ex : a .0 .0 ≡ p .0 = ap (λ q. q .0 .0) e in
+        let ey : b .0 .0 ≡ p .1 = ap (λ q. q .0 .1) e in
+        let en : b .0 .1 ≡ next = ap (λ q. q .1) e in (
+          a .0 .1,
+          a .1 ∙ ap (λ x. Ok (x, a .0 .1)) ex,
+          ap (λ x. second x input (a .0 .1)) (sym ex) ∙ b .1 ∙ ap (λ y. Ok (y, b .0 .1)) ey ∙ ap (λ n. Ok (p .1, n)) en,
+        )
 
-  pub after-exact : Exact Both Follows (after first second) (both write₁ write₂)
-  after-exact = record { back = back; only = only; whole = whole }
-    where
-      back : (p : X × Y) → Both p → (input : List ℕ) (at : ℕ) (rest : List ℕ) → Follows rest → drop at input ≡ both write₁ write₂ p ++ rest → after first second input at ≡ Ok (p, at + length (both write₁ write₂ p))
-      back p l input at rest f e =
-          let w : List ℕ = write₁ (p .0) in
-          let v : List ℕ = write₂ (p .0) (p .1) in
-          let front : drop at input ≡ w ++ (v ++ rest) = e ∙ append-assoc w v rest in
-          let a : first input at ≡ Ok (p .0, at + length w) = one .back (p .0) (l .0) input at (v ++ rest) tt front in
-          let behind : drop (at + length w) input ≡ v ++ rest = sym (drop-drop (length w) at input) ∙ ap (drop (length w)) front ∙ drop-at w (v ++ rest) (length w) refl in
-          let b : second (p .0) input (at + length w) ≡ Ok (p .1, at + length w + length v) = two (p .0) (l .0) .back (p .1) (l .1) input (at + length w) rest f behind in
-          let n : at + length w + length v ≡ at + length (w ++ v) = omega (arith, length-append w v) in
-          ap (λ r. and-then r (λ q. and-then (second (q .0) input (q .1)) (λ s. Ok ((q .0, s .0), s .1)))) a
-          ∙ ap (λ r. and-then r (λ s. Ok ((p .0, s .0), s .1))) b
-          ∙ ap (λ k. Ok (p, k)) n
+    pub after-exact : Exact Both Follows (after first second) (both write₁ write₂)
+    after-exact = record { back = back; only = only; whole = whole }
+      where
+        back : (p : X × Y) → Both p → (input : List ℕ) (at : ℕ) (rest : List ℕ) → Follows rest → drop at input ≡ both write₁ write₂ p ++ rest → after first second input at ≡ Ok (p, at + length (both write₁ write₂ p))
+        back p l input at rest f e =
+            let w : List ℕ = write₁ (p .0) in
+            let v : List ℕ = write₂ (p .0) (p .1) in
+            let front : drop at input ≡ w ++ (v ++ rest) = e ∙ append-assoc w v rest in
+            let a : first input at ≡ Ok (p .0, at + length w) = one .back (p .0) (l .0) input at (v ++ rest) tt front in
+            let behind : drop (at + length w) input ≡ v ++ rest = sym (drop-drop (length w) at input) ∙ ap (drop (length w)) front ∙ drop-at w (v ++ rest) (length w) refl in
+            let b : second (p .0) input (at + length w) ≡ Ok (p .1, at + length w + length v) = two (p .0) (l .0) .back (p .1) (l .1) input (at + length w) rest f behind in
+            let n : at + length w + length v ≡ at + length (w ++ v) = omega (arith, length-append w v) in
+            ap (λ r. and-then r (λ q. and-then (second (q .0) input (q .1)) (λ s. Ok ((q .0, s .0), s .1)))) a
+            ∙ ap (λ r. and-then r (λ s. Ok ((p .0, s .0), s .1))) b
+            ∙ ap (λ k. Ok (p, k)) n
 
-      only : (input : List ℕ) (at : ℕ) → Bytes input → (p : X × Y) (next : ℕ) → after first second input at ≡ Ok (p, next) → Holds Both Follows (both write₁ write₂) input at p next
-      only input at B p next h =
-          let w : List ℕ = write₁ (p .0) in
-          let v : List ℕ = write₂ (p .0) (p .1) in
-          let s = after-parts input at p next h in
-          let a : Holds Lawful₁ Anything write₁ input at (p .0) (s .0) = one .only input at B (p .0) (s .0) (s .1) in
-          let b : Holds (Lawful₂ (p .0)) Follows (write₂ (p .0)) input (s .0) (p .1) next = two (p .0) (a .lawful) .only input (s .0) B (p .1) next (s .2) in
-          record {
-            lawful = (a .lawful, b .lawful);
-            place = omega (arith, a .place, b .place, length-append w v);
-            form = a .form ∙ ap (λ t. w ++ t) (b .form) ∙ sym (append-assoc w v (drop next input));
-            follows = b .follows;
-          }
+        only : (input : List ℕ) (at : ℕ) → Bytes input → (p : X × Y) (next : ℕ) → after first second input at ≡ Ok (p, next) → Holds Both Follows (both write₁ write₂) input at p next
+        only input at B p next h =
+            let w : List ℕ = write₁ (p .0) in
+            let v : List ℕ = write₂ (p .0) (p .1) in
+            let s = after-parts input at p next h in
+            let a : Holds Lawful₁ Anything write₁ input at (p .0) (s .0) = one .only input at B (p .0) (s .0) (s .1) in
+            let b : Holds (Lawful₂ (p .0)) Follows (write₂ (p .0)) input (s .0) (p .1) next = two (p .0) (a .lawful) .only input (s .0) B (p .1) next (s .2) in
+            record {
+              lawful = (a .lawful, b .lawful);
+              place = omega (arith, a .place, b .place, length-append w v);
+              form = a .form ∙ ap (λ t. w ++ t) (b .form) ∙ sym (append-assoc w v (drop next input));
+              follows = b .follows;
+            }
 
-      whole : (p : X × Y) → Both p → (input : List ℕ) (at : ℕ) → Bytes input → (b : ℕ) (more : List ℕ) → both write₁ write₂ p ≡ drop at input ++ b ∷ more → (q : (X × Y) × ℕ) → after first second input at ≡ Ok q → ⊥
-      whole p l input at B b more e q h =
-          let s = after-parts input at (q .0) (q .1) h in
-          let a : Holds Lawful₁ Anything write₁ input at (q .0 .0) (s .0) = one .only input at B (q .0 .0) (s .0) (s .1) in
-          let f : write₁ (p .0) ++ write₂ (p .0) (p .1) ≡ write₁ (q .0 .0) ++ (drop (s .0) input ++ b ∷ more) =
-              e ∙ ap (λ t. t ++ b ∷ more) (a .form) ∙ append-assoc (write₁ (q .0 .0)) (drop (s .0) input) (b ∷ more) in
-          let same : p .0 ≡ q .0 .0 = same-front write₁ (one .back) (p .0) (q .0 .0) (l .0) (a .lawful) (write₂ (p .0) (p .1)) (drop (s .0) input ++ b ∷ more) f in
-          let f′ : write₁ (p .0) ++ write₂ (p .0) (p .1) ≡ write₁ (p .0) ++ (drop (s .0) input ++ b ∷ more) = f ∙ ap (λ x. write₁ x ++ (drop (s .0) input ++ b ∷ more)) (sym same) in
-          two (p .0) (l .0) .whole (p .1) (l .1) input (s .0) B b more (append-cancel-left (write₁ (p .0)) _ _ f′) (q .0 .1, q .1)
-          (ap (λ x. second x input (s .0)) same ∙ s .2)
+        whole : (p : X × Y) → Both p → (input : List ℕ) (at : ℕ) → Bytes input → (b : ℕ) (more : List ℕ) → both write₁ write₂ p ≡ drop at input ++ b ∷ more → (q : (X × Y) × ℕ) → after first second input at ≡ Ok q → ⊥
+        whole p l input at B b more e q h =
+            let s = after-parts input at (q .0) (q .1) h in
+            let a : Holds Lawful₁ Anything write₁ input at (q .0 .0) (s .0) = one .only input at B (q .0 .0) (s .0) (s .1) in
+            let f : write₁ (p .0) ++ write₂ (p .0) (p .1) ≡ write₁ (q .0 .0) ++ (drop (s .0) input ++ b ∷ more) =
+            e ∙ ap (λ t. t ++ b ∷ more) (a .form) ∙ append-assoc (write₁ (q .0 .0)) (drop (s .0) input) (b ∷ more) in
+            let same : p .0 ≡ q .0 .0 = same-front write₁ (one .back) (p .0) (q .0 .0) (l .0) (a .lawful) (write₂ (p .0) (p .1)) (drop (s .0) input ++ b ∷ more) f in
+            let f′ : write₁ (p .0) ++ write₂ (p .0) (p .1) ≡ write₁ (p .0) ++ (drop (s .0) input ++ b ∷ more) = f ∙ ap (λ x. write₁ x ++ (drop (s .0) input ++ b ∷ more)) (sym same) in
+            two (p .0) (l .0) .whole (p .1) (l .1) input (s .0) B b more (append-cancel-left (write₁ (p .0)) _ _ f′) (q .0 .1, q .1)
+            (ap (λ x. second x input (s .0)) same ∙ s .2)
 
 -- ---- a part with a test, with nothing behind it, with its fault inside another, told in another way
 

@@ -86,9 +86,9 @@ pub set-inside : (columns k row : ℕ) (bits : List ℕ) → Inside columns bits
 set-inside columns k row bits f h j =
     ⊎-elim
     (λ e. ⊎-elim
-      (λ l. subst (λ (x : ℕ). getD (set bits k row) x 0 < 2 ^ columns) (sym e) (subst (λ (x : ℕ). x < 2 ^ columns) (sym (getD-set-same bits k row 0 l)) h))
-      (λ g. rw (set-past bits k row (omega arith)) (f j))
-      (cases-lt k (length bits)))
+    (λ l. subst (λ (x : ℕ). getD (set bits k row) x 0 < 2 ^ columns) (sym e) (subst (λ (x : ℕ). x < 2 ^ columns) (sym (getD-set-same bits k row 0 l)) h))
+    (λ g. rw (set-past bits k row (omega arith)) (f j))
+    (cases-lt k (length bits)))
     (λ ne. rw (getD-set-other bits k j row 0 ne) (f j))
     (cases-eq j k)
 

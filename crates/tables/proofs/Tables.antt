@@ -29,8 +29,8 @@ use Rattle.tables.proofs.Parts.{bytes-drop, exact-of}
 holds-of : (input : List ℕ) (at : ℕ) (f : Form) (next : ℕ) → Accepted at (drop at input) f next → Holds Lawful Anything table-bytes input at f next
 holds-of input at f next a =
     let rest : drop next input ≡ a .rest =
-        ap (λ n. drop n input) (a .place) ∙ sym (drop-drop (length (table-bytes f)) at input)
-        ∙ ap (drop (length (table-bytes f))) (a .form) ∙ drop-at (table-bytes f) (a .rest) (length (table-bytes f)) refl in
+    ap (λ n. drop n input) (a .place) ∙ sym (drop-drop (length (table-bytes f)) at input)
+    ∙ ap (drop (length (table-bytes f))) (a .form) ∙ drop-at (table-bytes f) (a .rest) (length (table-bytes f)) refl in
     record { lawful = a .lawful; place = a .place; form = a .form ∙ ap (λ t. table-bytes f ++ t) (sym rest); follows = tt }
 
 pub table-exact : Exact Lawful Anything read-table table-bytes

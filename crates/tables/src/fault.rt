@@ -1,6 +1,5 @@
 ghost use mathlib.Core.Path.{_≡_};
 ghost use Rattle.tables.specs.Told.{table-told, save-reason};
-
 use refusals::Reason;
 use refusals::Told;
 

@@ -9,7 +9,11 @@ use crate::table::Table;
 fn cut(row: u64, columns: usize) -> u64
     ensures { λ r. ⌜ r ≡ row % 2 ^ columns ⌝ }
 {
-    if columns < 64 { row % (1 << columns) } else { row }
+    if columns < 64 {
+        row % (1 << columns)
+    } else {
+        row
+    }
 }
 
 impl Table {

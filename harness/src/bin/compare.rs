@@ -20,15 +20,15 @@ const USAGE: &str = "usage: compare jobs|desk [--count N] [--seed S] --program P
 
 fn main() -> ExitCode {
     let words: Vec<String> = std::env::args().skip(1).collect();
-    let Some(wish) = Wish::read(&words) else {
+    let Some(choice) = Choice::read(&words) else {
         eprintln!("{USAGE}");
         return ExitCode::from(2);
     };
-    let tally = match wish.matter.as_str() {
-        "jobs" => compare_jobs(&wish),
-        _ => compare_scripts(&wish),
+    let tally = match choice.matter.as_str() {
+        "jobs" => compare_jobs(&choice),
+        _ => compare_scripts(&choice),
     };
-    tally.print(&wish);
+    tally.print(&choice);
     if tally.different == 0 {
         ExitCode::SUCCESS
     } else {
@@ -36,29 +36,29 @@ fn main() -> ExitCode {
     }
 }
 
-struct Wish {
+struct Choice {
     matter: String,
     count: usize,
     seed: u64,
     program: PathBuf,
 }
 
-impl Wish {
-    fn read(words: &[String]) -> Option<Wish> {
+impl Choice {
+    fn read(words: &[String]) -> Option<Choice> {
         let (matter, options) = words.split_first()?;
         if matter != "jobs" && matter != "desk" {
             return None;
         }
-        let mut wish = Wish { matter: matter.clone(), count: 10_000, seed: 1, program: PathBuf::new() };
+        let mut choice = Choice { matter: matter.clone(), count: 10_000, seed: 1, program: PathBuf::new() };
         for option in options.chunks(2) {
             match option {
-                [name, value] if name == "--count" => wish.count = value.parse().ok()?,
-                [name, value] if name == "--seed" => wish.seed = value.parse().ok()?,
-                [name, value] if name == "--program" => wish.program = PathBuf::from(value),
+                [name, value] if name == "--count" => choice.count = value.parse().ok()?,
+                [name, value] if name == "--seed" => choice.seed = value.parse().ok()?,
+                [name, value] if name == "--program" => choice.program = PathBuf::from(value),
                 _ => return None,
             }
         }
-        (wish.program != Path::new("")).then_some(wish)
+        (choice.program != Path::new("")).then_some(choice)
     }
 }
 
@@ -84,22 +84,22 @@ impl Tally {
         }
     }
 
-    fn print(&self, wish: &Wish) {
+    fn print(&self, choice: &Choice) {
         let sorts: Vec<String> = self.sorts.iter().map(|(sort, count)| format!("{sort}: {count}")).collect();
         println!("answers wanted: {}", sorts.join(", "));
         let Tally { compared, skipped, different, .. } = self;
-        let matter = if wish.matter == "jobs" { "jobs" } else { "scripts" };
+        let matter = if choice.matter == "jobs" { "jobs" } else { "scripts" };
         println!(
             "{matter} seed {}: {compared} compared, {skipped} skipped, {different} different",
-            wish.seed
+            choice.seed
         );
     }
 }
 
-fn compare_jobs(wish: &Wish) -> Tally {
-    let mut maker = JobMaker::new(wish.seed);
+fn compare_jobs(choice: &Choice) -> Tally {
+    let mut maker = JobMaker::new(choice.seed);
     let mut tally = Tally::default();
-    while tally.compared < wish.count {
+    while tally.compared < choice.count {
         let job = maker.next_job();
         let Ok(wanted) = job_text(&job, PATIENCE) else {
             tally.skipped += 1;
@@ -107,7 +107,7 @@ fn compare_jobs(wish: &Wish) -> Tally {
         };
         tally.compared += 1;
         tally.note(sort_of_text(&wanted));
-        if let Some(got) = job_difference(&program::run(&wish.program, &job), &wanted) {
+        if let Some(got) = job_difference(&program::run(&choice.program, &job), &wanted) {
             tally.difference(|| format!("job {}\nwanted {wanted:?}\ngot    {got}\n", hex_text(&job)));
         }
     }
@@ -142,10 +142,10 @@ fn outcome_text(outcome: &Outcome) -> String {
     format!("{text:?} with status {:?}", outcome.status)
 }
 
-fn compare_scripts(wish: &Wish) -> Tally {
-    let mut chance = Chance::new(wish.seed);
+fn compare_scripts(choice: &Choice) -> Tally {
+    let mut chance = Chance::new(choice.seed);
     let mut tally = Tally::default();
-    while tally.compared < wish.count {
+    while tally.compared < choice.count {
         let script = script(&mut chance, PATIENCE);
         let Some(wanted) = desk::play(&script, PATIENCE) else {
             tally.skipped += 1;
@@ -153,7 +153,7 @@ fn compare_scripts(wish: &Wish) -> Tally {
         };
         tally.compared += 1;
         wanted.answers.lines().for_each(|answer| tally.note(sort_of_answer(answer)));
-        if let Some(got) = script_difference(&program::run(&wish.program, &script), &wanted) {
+        if let Some(got) = script_difference(&program::run(&choice.program, &script), &wanted) {
             tally.difference(|| format!("script\n{}{got}\n", String::from_utf8_lossy(&script)));
         }
     }

@@ -29,7 +29,7 @@ fn call(input: &[u8], output: &mut [u8]) -> JobAnswer {
 }
 
 fn main() -> ExitCode {
-    let Some((count, seed)) = wish() else {
+    let Some((count, seed)) = choice() else {
         eprintln!("usage: compare-lib [--count N] [--seed S]");
         return ExitCode::from(2);
     };
@@ -41,7 +41,7 @@ fn main() -> ExitCode {
     }
 }
 
-fn wish() -> Option<(usize, u64)> {
+fn choice() -> Option<(usize, u64)> {
     let words: Vec<String> = std::env::args().skip(1).collect();
     let (mut count, mut seed) = (100_000, 1);
     for option in words.chunks(2) {

@@ -2,13 +2,14 @@
 ghost use mathlib.Core.Path.{_≡_};
 ghost use mathlib.Core.Bool.{cond};
 ghost use mathlib.Core.List.{[]};
-ghost use Prim.Native.Nat.{ℕ};
+ghost use Prim.Native.Nat.{ℕ, _≤_};
 ghost use lib.Dec.{ltb};
 ghost use lib.ListN.{getD};
 ghost use Rattle.books.specs.Fit.{handed};
+ghost use Rattle.tables.specs.Shape.{Inside, Blank};
 ghost use Rattle.ledgers.specs.Calls.{begin, «open», strike, free, fit, fit-further, tally, save, number};
 ghost use Rattle.plans.specs.Refused.{doing, saving, opening};
-ghost use Rattle.plans.specs.Step.{Step, Shows, Fresh, turn};
+ghost use Rattle.plans.specs.Step.{Started, Step, Shows, Fresh, turn};
 ghost use Rattle.plans.specs.Runs.{Law};
 use crate::plan::Plan;
 use crate::refusal::Refusal;
@@ -36,12 +37,32 @@ fn front_rows(rows: &[u64]) -> [u64; 24]
 }
 
 impl Plan {
+    // A plan as it stands at a start: no fit and no last answer.
+    fn started(units: usize, bays: usize, struck: [u64; 24]) -> Plan
+        requires some_units { ⌜ 1 ≤ units ⌝ }
+        requires few_units { ⌜ units ≤ 24 ⌝ }
+        requires some_bays { ⌜ 1 ≤ bays ⌝ }
+        requires few_bays { ⌜ bays ≤ 64 ⌝ }
+        requires inside { ⌜ Inside bays struck ⌝ }
+        requires blank { ⌜ Blank units struck ⌝ }
+        ensures { λ r. ⌜ Started units bays struck r ⌝ }
+    {
+        Plan {
+            units,
+            bays,
+            struck,
+            fit: false,
+            fitted: [0; 24],
+            last: None,
+        }
+    }
+
     // A plan of one unit and one bay.
     pub fn new() -> Plan
         ensures fresh { λ r. ⌜ Fresh r ⌝ }
         ensures law { λ _. ⌜ Law ⌝ }
     {
-        Plan { units: 1, bays: 1, struck: [0; 24], fit: false, fitted: [0; 24], last: None }
+        Plan::started(1, 1, [0; 24])
     }
 
     // Starts the plan over.
@@ -51,7 +72,7 @@ impl Plan {
         if units < 1 || units > 24 || bays < 1 || bays > 64 {
             return Err(Refusal::Sizes);
         }
-        *self = Plan { units, bays, struck: [0; 24], fit: false, fitted: [0; 24], last: None };
+        *self = Plan::started(units, bays, [0; 24]);
         Ok(())
     }
 
@@ -64,7 +85,7 @@ impl Plan {
         let units = table.rows().len();
         let bays = table.columns();
         let struck = front_rows(table.rows());
-        *self = Plan { units, bays, struck, fit: false, fitted: [0; 24], last: None };
+        *self = Plan::started(units, bays, struck);
         Ok(())
     }
 
@@ -111,7 +132,12 @@ impl Plan {
     }
 
     // Fits exactly the pairs whose cards suit by the book.
-    pub fn fit<B: Book>(&mut self, book: &B, units: &[B::UnitCard], bays: &[B::BayCard]) -> Result<(), Refusal>
+    pub fn fit<B: Book>(
+        &mut self,
+        book: &B,
+        units: &[B::UnitCard],
+        bays: &[B::BayCard],
+    ) -> Result<(), Refusal>
         ensures { λ r. ⌜ Step (now (self .entry)) (turn (fit (handed (B·Book .suiting (now (book .entry))) (now (units .entry)) (now (bays .entry)))) (doing r) []) (now (self .exit)) ⌝ }
     {
         if units.len() != self.units || bays.len() != self.bays {
@@ -123,7 +149,12 @@ impl Plan {
     }
 
     // Drops the fitted pairs that the book refuses.
-    pub fn fit_further<B: Book>(&mut self, book: &B, units: &[B::UnitCard], bays: &[B::BayCard]) -> Result<(), Refusal>
+    pub fn fit_further<B: Book>(
+        &mut self,
+        book: &B,
+        units: &[B::UnitCard],
+        bays: &[B::BayCard],
+    ) -> Result<(), Refusal>
         ensures { λ r. ⌜ Step (now (self .entry)) (turn (fit-further (handed (B·Book .suiting (now (book .entry))) (now (units .entry)) (now (bays .entry)))) (doing r) []) (now (self .exit)) ⌝ }
     {
         if units.len() != self.units || bays.len() != self.bays {

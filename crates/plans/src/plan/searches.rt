@@ -34,7 +34,14 @@ fn copy(from: &[u8; 24], units: usize, out: &mut [u8])
 }
 
 // The first placement within the rows after the last answer, which is lent whole.
-fn next_in<A: Source, R: Source, F: Filter>(arrangement: &A, room: &R, strict: bool, filter: &F, rows: &[u64], last: &[u8; 24]) -> Result<Find, SearchError>
+fn next_in<A: Source, R: Source, F: Filter>(
+    arrangement: &A,
+    room: &R,
+    strict: bool,
+    filter: &F,
+    rows: &[u64],
+    last: &[u8; 24],
+) -> Result<Find, SearchError>
     ensures answer { λ r. ⌜ r ≡ answer-of (shaped (A·Source .graph (now (arrangement .entry))) (R·Source .graph (now (room .entry))) (now (rows .entry)) && leb (length (now (rows .entry))) 24) (walk (setting (A·Source .graph (now (arrangement .entry))) (R·Source .graph (now (room .entry))) strict (F·Filter .left (now (filter .entry)))) (Some (take (length (now (rows .entry))) (now (last .entry)))) (now (rows .entry))) ⌝ }
     ensures theorem { λ _. ⌜ Finds-next ⌝ }
 {
@@ -43,7 +50,14 @@ fn next_in<A: Source, R: Source, F: Filter>(arrangement: &A, room: &R, strict: b
 
 impl Plan {
     // The first placement within the open pairs, into the buffer, with the tries.
-    pub fn seek<A: Source, R: Source, F: Filter>(&mut self, arrangement: &A, room: &R, strict: bool, filter: &F, out: &mut [u8]) -> Result<u32, Refusal>
+    pub fn seek<A: Source, R: Source, F: Filter>(
+        &mut self,
+        arrangement: &A,
+        room: &R,
+        strict: bool,
+        filter: &F,
+        out: &mut [u8],
+    ) -> Result<u32, Refusal>
         ensures step { λ r. ⌜ Step (now (self .entry)) (turn (seek (setting (A·Source .graph (now (arrangement .entry))) (R·Source .graph (now (room .entry))) strict (F·Filter .left (now (filter .entry)))) (now (out .entry))) (finding r) (now (out .exit))) (now (self .exit)) ⌝ }
         ensures shows { λ _. ⌜ Shows (seek (setting (A·Source .graph (now (arrangement .entry))) (R·Source .graph (now (room .entry))) strict (F·Filter .left (now (filter .entry)))) (now (out .entry))) ⌝ }
     {
@@ -73,7 +87,14 @@ impl Plan {
     }
 
     // The first placement after the last answer, into the buffer, with the tries.
-    pub fn further<A: Source, R: Source, F: Filter>(&mut self, arrangement: &A, room: &R, strict: bool, filter: &F, out: &mut [u8]) -> Result<u32, Refusal>
+    pub fn further<A: Source, R: Source, F: Filter>(
+        &mut self,
+        arrangement: &A,
+        room: &R,
+        strict: bool,
+        filter: &F,
+        out: &mut [u8],
+    ) -> Result<u32, Refusal>
         ensures step { λ r. ⌜ Step (now (self .entry)) (turn (further (setting (A·Source .graph (now (arrangement .entry))) (R·Source .graph (now (room .entry))) strict (F·Filter .left (now (filter .entry)))) (now (out .entry))) (finding r) (now (out .exit))) (now (self .exit)) ⌝ }
         ensures shows { λ _. ⌜ Shows (further (setting (A·Source .graph (now (arrangement .entry))) (R·Source .graph (now (room .entry))) strict (F·Filter .left (now (filter .entry)))) (now (out .entry))) ⌝ }
     {
@@ -106,7 +127,15 @@ impl Plan {
     }
 
     // Whether some placement within the open pairs has the unit on the bay, with the tries; the guard puts the row back.
-    pub fn what_if<A: Source, R: Source, F: Filter>(&mut self, unit: usize, bay: usize, arrangement: &A, room: &R, strict: bool, filter: &F) -> Result<u32, Refusal>
+    pub fn what_if<A: Source, R: Source, F: Filter>(
+        &mut self,
+        unit: usize,
+        bay: usize,
+        arrangement: &A,
+        room: &R,
+        strict: bool,
+        filter: &F,
+    ) -> Result<u32, Refusal>
         ensures step { λ r. ⌜ Step (now (self .entry)) (turn (what-if unit bay (setting (A·Source .graph (now (arrangement .entry))) (R·Source .graph (now (room .entry))) strict (F·Filter .left (now (filter .entry))))) (asking r) []) (now (self .exit)) ⌝ }
         ensures shows { λ _. ⌜ Shows (what-if unit bay (setting (A·Source .graph (now (arrangement .entry))) (R·Source .graph (now (room .entry))) strict (F·Filter .left (now (filter .entry))))) ⌝ }
     {
@@ -122,7 +151,11 @@ impl Plan {
         let units = self.units;
         let struck = self.struck;
         let saved = self.fitted[unit];
-        let guard = Narrowed { rows: &mut self.fitted, unit, saved };
+        let guard = Narrowed {
+            rows: &mut self.fitted,
+            unit,
+            saved,
+        };
         guard.rows[unit] = saved & (1 << bay);
         let rows = without(guard.rows, &struck);
         match first(arrangement, room, strict, filter, &rows[0..units]) {

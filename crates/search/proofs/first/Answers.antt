@@ -7,6 +7,8 @@ use Rattle.filters.specs.Filter.{shaped}
 use Rattle.filters.proofs.Shapes.{shape-of}
 use Rattle.search.specs.Walk.{Setting, Outcome, setting, walk-from}
 use Rattle.search.specs.Found.{Sought, answer-with}
+use Rattle.placements.proofs.Morphisms.{open-is-mono, strict-is-induced}
+use Rattle.search.proofs.Alike.{filters-alike}
 use Rattle.search.proofs.Answered.{accepted, declined, searched, walk-unread}
 use Rattle.search.proofs.Counted.{counts-tries}
 use Rattle.search.proofs.Whole.{finds-first}
@@ -21,6 +23,9 @@ returns-then-not-well-shaped g c =
       first = λ ok. both-ways _ ill ok;
       theorem = finds-first;
       counted = counts-tries;
+      alike = filters-alike;
+      monomorphisms = open-is-mono;
+      induced = strict-is-induced;
     }
 
 pub returns : need.returns
@@ -38,4 +43,7 @@ returns g c =
           (finds-first w rows (g .F·Filter·met .lawful (c .args .filter .now)) (g .A·Source .sound (c .args .arrangement .now)) (g .R·Source .sound (c .args .room .now)) ok);
       theorem = finds-first;
       counted = counts-tries;
+      alike = filters-alike;
+      monomorphisms = open-is-mono;
+      induced = strict-is-induced;
     }

@@ -27,8 +27,8 @@ returns c =
     let b = c .put-rows .ensures .after in
     let q = c .put-rows .ensures .place in
     let done : Saved (table-bytes (view (c .args .table .now))) (c .args .out .now) (c .put-rows .last .out) (Ok (c .put-rows .result)) =
-        subst (λ (rows : List ℕ). Saved (table-bytes (record { columns = c .args .table .now .columns; rows = rows })) (c .args .out .now) (c .put-rows .last .out) (Ok (c .put-rows .result))) (c .rows-rows .ensures .value)
-        (saved-whole (record { columns = c .args .table .now .columns; rows = c .rows-rows .result .now }) (c .args .out .now) _ _ _ (omega (arith, c .rows-len .ensures .value)) (rw (c .map-of .ensures) at a) (rw p at b) (rw p at q)) in
+    subst (λ (rows : List ℕ). Saved (table-bytes (record { columns = c .args .table .now .columns; rows = rows })) (c .args .out .now) (c .put-rows .last .out) (Ok (c .put-rows .result))) (c .rows-rows .ensures .value)
+    (saved-whole (record { columns = c .args .table .now .columns; rows = c .rows-rows .result .now }) (c .args .out .now) _ _ _ (omega (arith, c .rows-len .ensures .value)) (rw (c .map-of .ensures) at a) (rw p at b) (rw p at q)) in
     record {
       saved = done;
       back = saved-back table-bytes table-exact tt (view (c .args .table .now)) (view-lawful (c .args .table .now)) (c .args .out .now) (c .put-rows .last .out) (Ok (c .put-rows .result)) done;

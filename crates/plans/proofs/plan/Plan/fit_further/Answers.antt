@@ -9,10 +9,28 @@ use Rattle.plans.proofs.plan.Plan.fit_further.Needs as need
 pub ghost-self : need.ghost-self
 ghost-self g c =
     let p = c .args .self .now in
-    let r = pairs (c .suited-rows-suited .result) in
-    (p .«some_units», (p .«few_units», (p .«some_bays», (p .«few_bays», (p .inside, (p .blank,
-      (both-inside (p .bays) (p .fitted) _ r (p .«fitted_inside») (c .common-kept .ensures),
-      (both-blank (p .units) (p .fitted) _ r (p .«fitted_blank») (c .common-kept .ensures), (p .«last_low», (p .«last_blank», tt))))))))))
+    let r = pairs (c .suited-rows-suited .result) in (
+      p .«some_units»,
+      (
+        p .«few_units»,
+        (
+          p .«some_bays»,
+          (
+            p .«few_bays»,
+            (
+              p .inside,
+              (
+                p .blank,
+                (
+                  both-inside (p .bays) (p .fitted) _ r (p .«fitted_inside») (c .common-kept .ensures),
+                  (both-blank (p .units) (p .fitted) _ r (p .«fitted_blank») (c .common-kept .ensures), (p .«last_low», (p .«last_blank», tt))),
+                ),
+              ),
+            ),
+          ),
+        ),
+      ),
+    )
 
 pub returns : need.returns
 returns g c =

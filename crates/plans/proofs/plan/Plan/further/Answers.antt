@@ -27,11 +27,14 @@ returns-then-count-self g c =
     let p = c .args .self .now in
     let s = setting (g .A·Source .graph (c .args .arrangement .now)) (g .R·Source .graph (c .args .room .now)) (c .args .strict) (g .F·Filter .left (c .args .filter .now)) in
     let fair : Fair s = record { arrangement = g .A·Source .sound (c .args .arrangement .now); room = g .R·Source .sound (c .args .room .now); filter = g .F·Filter·met .lawful (c .args .filter .now) } in
-    record { step = other-further p s (c .args .out .now) (c .if-not-self .left)
-        (λ x y. elim (c .then-count-self .came) [
-          | then-count-self·by·then-count-self w ↦ w .if-count-self .taken (c .count .ensures ∙ x)
-          | then-count-self·by·else-count-self·then-count-self-2 w ↦ w .if-count-self-2 .taken (w .count-else-count-self .ensures ∙ y)
-        ]); shows = fair }
+    record {
+      step = other-further p s (c .args .out .now) (c .if-not-self .left)
+          (λ x y. elim (c .then-count-self .came) [
+            | then-count-self·by·then-count-self w ↦ w .if-count-self .taken (c .count .ensures ∙ x)
+            | then-count-self·by·else-count-self·then-count-self-2 w ↦ w .if-count-self-2 .taken (w .count-else-count-self .ensures ∙ y)
+          ]);
+      shows = fair;
+    }
 
 pub unreachable-requires : need.unreachable-requires
 unreachable-requires g c κs =
@@ -104,7 +107,7 @@ returns-in-NoPlacement g c =
     let e = c .in-Err .ensures tt in
     let x = lost p s _ _ (Some (take (length (take (p .units - 0) rows)) last)) y _ ok (e .theorem s _ _ (fair .filter) (fair .arrangement) (fair .room) (shape p s _ _ y)) (c .in-NoPlacement .tries) (ap Err (sym (c .in-NoPlacement .is)) ∙ e .answer) in
     let z : ((w : List ℕ) → Open (view p) s (shortened (p .units) (p .last)) w → ⊥) × (c .in-NoPlacement .tries ≡ tries-in (view p) s (open-pairs (view p)) (shortened (p .units) (p .last))) =
-        subst (λ o. ((w : List ℕ) → Open (view p) s o w → ⊥) × (c .in-NoPlacement .tries ≡ tries-in (view p) s (open-pairs (view p)) o)) at x in
+    subst (λ o. ((w : List ℕ) → Open (view p) s o w → ⊥) × (c .in-NoPlacement .tries ≡ tries-in (view p) s (open-pairs (view p)) o)) at x in
     let look = further-looks p s (c .args .out .now) (c .if-not-self .left) ea er (ap (λ o. no-last (shortened (p .units) o)) (c .in-Some .is)) (c .if-out-self .left) in
     record {
       step = lost-step p _ s (shortened (p .units) (p .last)) (c .args .out .now) _ look ea er (record { units = refl; bays = refl; struck = refl; fit = refl; fitted = refl; last = refl }) (c .in-NoPlacement .tries) (z .0) (z .1);

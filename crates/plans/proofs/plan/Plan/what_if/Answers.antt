@@ -51,7 +51,7 @@ returns-in-Ok g c =
     let x = got p s _ _ None y _ ok (e .theorem s _ (fair .filter) (fair .arrangement) (fair .room) ok) (c .in-Ok .find) (e .answer) in
     record {
       step = asked-yes p _ s u b (c .if-unit-self .left) (c .if-bay-self .left) (c .if-not-self .left) ea er
-        (record { units = refl; bays = refl; struck = refl; fit = refl; fitted = back; last = refl }) _ (c .in-Ok .find .tries) (x .first) (x .tries);
+          (record { units = refl; bays = refl; struck = refl; fit = refl; fitted = back; last = refl }) _ (c .in-Ok .find .tries) (x .first) (x .tries);
       shows = fair;
     }
 
@@ -59,9 +59,25 @@ pub ghost-self-in-NoPlacement : need.ghost-self-in-NoPlacement
 ghost-self-in-NoPlacement g c =
     let p = c .args .self .now in
     let u = c .args .unit in
-    let back : c .drop-guard-in-NoPlacement .last .self .0 ≡ p .fitted = c .drop-guard-in-NoPlacement .ensures ∙ set-set (p .fitted) u _ (getD (p .fitted) u 0) ∙ set-getD (p .fitted) u 0 in
-    (p .«some_units», (p .«few_units», (p .«some_bays», (p .«few_bays», (p .inside, (p .blank,
-      (subst (λ r. Inside (p .bays) r) (sym back) (p .«fitted_inside»), (subst (λ r. Blank (p .units) r) (sym back) (p .«fitted_blank»), (p .«last_low», (p .«last_blank», tt))))))))))
+    let back : c .drop-guard-in-NoPlacement .last .self .0 ≡ p .fitted = c .drop-guard-in-NoPlacement .ensures ∙ set-set (p .fitted) u _ (getD (p .fitted) u 0) ∙ set-getD (p .fitted) u 0 in (
+      p .«some_units»,
+      (
+        p .«few_units»,
+        (
+          p .«some_bays»,
+          (
+            p .«few_bays»,
+            (
+              p .inside,
+              (
+                p .blank,
+                (subst (λ r. Inside (p .bays) r) (sym back) (p .«fitted_inside»), (subst (λ r. Blank (p .units) r) (sym back) (p .«fitted_blank»), (p .«last_low», (p .«last_blank», tt)))),
+              ),
+            ),
+          ),
+        ),
+      ),
+    )
 
 pub returns-in-NoPlacement : need.returns-in-NoPlacement
 returns-in-NoPlacement g c =
@@ -82,6 +98,6 @@ returns-in-NoPlacement g c =
     let x = lost p s _ _ None y _ ok (e .theorem s _ (fair .filter) (fair .arrangement) (fair .room) ok) (c .in-NoPlacement .tries) (ap Err (sym (c .in-NoPlacement .is)) ∙ e .answer) in
     record {
       step = asked-none p _ s u b (c .if-unit-self .left) (c .if-bay-self .left) (c .if-not-self .left) ea er
-        (record { units = refl; bays = refl; struck = refl; fit = refl; fitted = back; last = refl }) (c .in-NoPlacement .tries) (x .0) (x .1);
+          (record { units = refl; bays = refl; struck = refl; fit = refl; fitted = back; last = refl }) (c .in-NoPlacement .tries) (x .0) (x .1);
       shows = fair;
     }

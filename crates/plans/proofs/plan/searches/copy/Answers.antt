@@ -16,9 +16,10 @@ loop-i-again c =
     let x = getD from i 0 in
     let lt : i < length out = search needs in
     let lf : i < length from = search needs in
-    let less : i < i + 1 = omega arith in
-    (take-more-set out i x lt ∙ ap (λ t. t ++ (x ∷ [])) (c .loop-i .inv .0) ∙ sym (take-more from i 0 lf),
-     drop-set-lt (i + 1) out i x less ∙ sym (drop-drop 1 i out) ∙ ap (drop 1) (c .loop-i .inv .1) ∙ drop-drop 1 i was)
+    let less : i < i + 1 = omega arith in (
+      take-more-set out i x lt ∙ ap (λ t. t ++ (x ∷ [])) (c .loop-i .inv .0) ∙ sym (take-more from i 0 lf),
+      drop-set-lt (i + 1) out i x less ∙ sym (drop-drop 1 i out) ∙ ap (drop 1) (c .loop-i .inv .1) ∙ drop-drop 1 i was,
+    )
 
 pub returns : need.returns
 returns c =
