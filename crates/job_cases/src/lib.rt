@@ -13,92 +13,15 @@ mod tests {
     use jobs::read_job;
     use std::test::*;
 
-    // Two joined units, a wall unit and a hob, and three bays in a line; edition 2, open use, nothing struck.
-    fn worked() -> [u8; 82] {
-        [
-            0,
-            2,
-            0,
-            2,
-            2,
-            3,
-            0,
-            0,
-            0,
-            0,
-            0,
-            0,
-            0,
-            2,
-            0,
-            0,
-            0,
-            0,
-            0,
-            0,
-            0,
-            1,
-            0,
-            0,
-            0,
-            0,
-            0,
-            0,
-            0,
-            3,
-            3,
-            7,
-            0,
-            0,
-            0,
-            0,
-            0,
-            0,
-            0,
-            2,
-            0,
-            0,
-            0,
-            0,
-            0,
-            0,
-            0,
-            5,
-            0,
-            0,
-            0,
-            0,
-            0,
-            0,
-            0,
-            2,
-            0,
-            0,
-            0,
-            0,
-            0,
-            0,
-            0,
-            1,
-            3,
-            188,
-            2,
-            32,
-            3,
-            188,
-            2,
-            2,
-            2,
-            3,
-            0,
-            0,
-            0,
-            0,
-            0,
-            0,
-            0,
-            0,
-        ]
+    // Two joined units, a wall unit and a hob, and three bays in a line; edition 2, open use, nothing struck. One byte more stands
+    // behind the 82 of the job.
+    fn worked() -> [u8; 83] {
+        *b"\0\x02\0\
+            \x02\x02\x03\0\0\0\0\0\0\0\x02\0\0\0\0\0\0\0\x01\0\0\0\0\0\0\0\
+            \x03\x03\x07\0\0\0\0\0\0\0\x02\0\0\0\0\0\0\0\x05\0\0\0\0\0\0\0\x02\0\0\0\0\0\0\0\
+            \x01\x03\
+            \xbc\x02\x20\x03\xbc\x02\
+            \x02\x02\x03\0\0\0\0\0\0\0\0\0"
     }
 
     // The number, the layer and the place that reading tells.
@@ -114,7 +37,8 @@ mod tests {
 
     #[test]
     fn worked_job() -> Result<(), Fail> {
-        let job = read_job(&worked())?;
+        let bytes = worked();
+        let job = read_job(&bytes[0..82])?;
         check_eq(job.mode, Mode::Open)?;
         check_eq(job.edition, Edition::Two)?;
         check(job.kinds().len() == 2)?;
@@ -150,7 +74,7 @@ mod tests {
             let mut bytes = worked();
             check(at < 82)?;
             bytes[at] = byte;
-            check_eq(told(read_job(&bytes)), Some(expected))?;
+            check_eq(told(read_job(&bytes[0..82])), Some(expected))?;
         }
         Ok(())
     }
@@ -182,10 +106,7 @@ mod tests {
     // A byte too many is told before sizes that differ.
     #[test]
     fn byte_left() -> Result<(), Fail> {
-        let mut bytes = [0; 83];
-        for (i, byte) in worked().iter().enumerate() {
-            bytes[i] = *byte;
-        }
+        let mut bytes = worked();
         bytes[72] = 3;
         check_eq(told(read_job(&bytes)), Some((17, 2, 82)))
     }
