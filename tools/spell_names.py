@@ -12,7 +12,9 @@ import sys
 
 STOP = r"\s(){}\[\];,.«»⌜⌝\""
 NAME = rf"[^{STOP}:]+"
-DECLARED = re.compile(rf"^\s*(?:pub )?(?:(?:abbrev|unfoldable|data|record) )?(?:pub )?(?:(?:abbrev|unfoldable|data|record) )?(?P<names>{NAME}(?: {NAME})*)(?P<rest>(?: [({{].*)?) :(?: |$)")
+WORD = rf"(?:pub|abbrev|unfoldable|data|record)"
+GROUP = r"[({](?:[^(){}]|[({][^(){}]*[)}])*[)}]"
+DECLARED = re.compile(rf"^\s*(?:{WORD} )*(?P<names>{NAME}(?: {NAME})*)(?: {GROUP})* :(?: |$)")
 MADE = re.compile(rf"(?<![^{STOP}])(?:goal|given)\.({NAME})")
 GIVEN = re.compile(r"^use Rattle\.\w+\.proofs\.\S*\.(?:Goals|Given)\.\{(.*)\}")
 RENAMED = re.compile(rf" as ({NAME})(?=[,}}])")
@@ -45,7 +47,7 @@ def declared(paths):
                 made.update(re.split(r",\s*| as ", m[1]))
             names = RENAMED.findall(line) if line.startswith(("use ", "ghost use ")) else []
             m = DECLARED.match(line)
-            if m and path.endswith(".antt"):
+            if m and path.endswith(".antt") and not re.search(r"[|↦∙λ=→∷]", m["names"]):
                 names += m["names"].split()
             for name in names:
                 if re.search(r"\w-\w", name):

@@ -1,7 +1,7 @@
 -- The rows of the pairs whose cards suit: one bay more, one unit more, and what a caller reads off them. Assumes nothing.
 use Rattle.std.proofs.Common.{◌≡◌, ℕ, zero, suc, ◌+◌, ◌-◌, ◌^◌, ◌<◌, ◌≤◌, min, Bool, false, ◌&&◌, ltb, List, [], ◌∷◌, length, get_or, take, set, replicate, sym, refl, ap, ◌∙◌, subst, inl, inr, arith}
 use Rattle.std.proofs.lemmas.List.{get_or-set_same, get_or-set_other, length-set}
-use Rattle.std.proofs.lemmas.Bool.{cases_eq, cases_lt, lt_ltb, le_ltb, and_right, both_ways}
+use Rattle.std.proofs.lemmas.Bool.{cases_eq, cases_lt, lt-ltb, le-ltb, and_right, both_ways}
 use Rattle.std.proofs.lemmas.Bool.Decides.{nat_tests}
 use Rattle.graphs.specs.Rows.{bit, Pairs, pairs}
 use Rattle.graphs.proofs.Bits.{bit_none, bits_below}
@@ -31,9 +31,9 @@ passes_if t test (y ∷ ys) zero = refl
 passes_if t test (y ∷ ys) (suc i) = passes_if t test ys i
 
 passes_take : {X : Type 0} (test : X → Bool) (n : ℕ) (xs : List X) (i : ℕ) → passes_at test (take n xs) i ≡ (ltb i n && passes_at test xs i)
-passes_take test zero xs i = sym (ap (λ (t : Bool). t && passes_at test xs i) (le_ltb i 0 (omega arith)))
+passes_take test zero xs i = sym (ap (λ (t : Bool). t && passes_at test xs i) (le-ltb i 0 (omega arith)))
 passes_take test (suc n) [] i = sym (and_right (ltb i (suc n)) false refl)
-passes_take test (suc n) (y ∷ ys) zero = sym (ap (λ (t : Bool). t && test y) (lt_ltb 0 (suc n) (omega arith)))
+passes_take test (suc n) (y ∷ ys) zero = sym (ap (λ (t : Bool). t && test y) (lt-ltb 0 (suc n) (omega arith)))
 passes_take test (suc n) (y ∷ ys) (suc i) =
     passes_take test n ys i ∙ ap (λ (t : Bool). t && passes_at test ys i) (let e : ltb i n ≡ ltb (suc i) (suc n) = grind (arith, nat_tests) in e)
 
@@ -74,7 +74,7 @@ pub upto_all : (n x : ℕ) (p : ℕ → Bool) → Upto n p x → ((c : ℕ) → 
 upto_all n x p h none c =
     h c
     ∙ elim (cases_lt c n) [
-      | inl lt ↦ ap (λ (t : Bool). t && p c) (lt_ltb c n lt)
+      | inl lt ↦ ap (λ (t : Bool). t && p c) (lt-ltb c n lt)
       | inr le ↦ and_right (ltb c n) (p c) (none c le) ∙ sym (none c le)
     ]
 
@@ -91,7 +91,7 @@ get_or_zeros (suc n) (suc u) = get_or_zeros n u
 pub built_none : (suits : Pairs) → Built (replicate 24 0) 0 suits
 built_none suits = record {
   full = refl;
-  holds = λ u b. ap (λ (x : ℕ). bit x b) (get_or_zeros 24 u) ∙ bit_none b ∙ sym (ap (λ (t : Bool). t && suits u b) (le_ltb u 0 (omega arith)));
+  holds = λ u b. ap (λ (x : ℕ). bit x b) (get_or_zeros 24 u) ∙ bit_none b ∙ sym (ap (λ (t : Bool). t && suits u b) (le-ltb u 0 (omega arith)));
 }
 
 pub built_more : (rows : List ℕ) (i row : ℕ) (suits : Pairs) → i < 24 → Built rows i suits → ((b : ℕ) → bit row b ≡ suits i b) → Built (set rows i row) (i + 1) suits
@@ -103,7 +103,7 @@ built_more rows i row suits lt built at =
         | inl same ↦
             let P : ℕ → Type 0 = λ v. pairs (set rows i row) v b ≡ (ltb v (i + 1) && suits v b) in
             subst P (sym same)
-            (ap (λ (x : ℕ). bit x b) (get_or-set_same rows i row 0 inside) ∙ at b ∙ sym (ap (λ (t : Bool). t && suits i b) (lt_ltb i (i + 1) (omega arith))))
+            (ap (λ (x : ℕ). bit x b) (get_or-set_same rows i row 0 inside) ∙ at b ∙ sym (ap (λ (t : Bool). t && suits i b) (lt-ltb i (i + 1) (omega arith))))
         | inr other ↦
             ap (λ (x : ℕ). bit x b) (get_or-set_other rows i u row 0 other) ∙ built.holds u b
             ∙ ap (λ (t : Bool). t && suits u b) (let s : ltb u i ≡ ltb u (i + 1) = grind (arith, nat_tests) in s)
@@ -114,7 +114,7 @@ pub built_all : (rows : List ℕ) (i : ℕ) (suits : Pairs) → Built rows i sui
 built_all rows i suits built none u b =
     built.holds u b
     ∙ elim (cases_lt u i) [
-      | inl lt ↦ ap (λ (t : Bool). t && suits u b) (lt_ltb u i lt)
+      | inl lt ↦ ap (λ (t : Bool). t && suits u b) (lt-ltb u i lt)
       | inr le ↦ and_right (ltb u i) (suits u b) (none u b le) ∙ sym (none u b le)
     ]
 
@@ -131,8 +131,8 @@ module _ {U V : Type 0} (test : U → V → Bool) (units : List U) (bays : List 
       elim (cases_lt u 24) [
         | inl lu ↦ elim (cases_lt b 64) [
           | inl lb ↦
-              suited u b ∙ ap (λ (t : Bool). t && (ltb b 64 && (handed test units bays).suits u b)) (lt_ltb u 24 lu)
-              ∙ ap (λ (t : Bool). t && (handed test units bays).suits u b) (lt_ltb b 64 lb)
+              suited u b ∙ ap (λ (t : Bool). t && (ltb b 64 && (handed test units bays).suits u b)) (lt-ltb u 24 lu)
+              ∙ ap (λ (t : Bool). t && (handed test units bays).suits u b) (lt-ltb b 64 lb)
           | inr gb ↦ let none = handed_past_bays test units bays u b (omega arith) in pairs_none u b none ∙ sym none
         ]
         | inr gu ↦ let none = handed_past_units test units bays u b (omega arith) in pairs_none u b none ∙ sym none

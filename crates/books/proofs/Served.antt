@@ -1,7 +1,7 @@
 -- All needed bits are there where taking the common bits leaves the needs. Assumes nothing.
 use Rattle.std.proofs.Common.{◌≡◌, ℕ, zero, suc, ◌^◌, ◌<◌, Bool, true, false, not, ◌&&◌, ◌||◌, eqb, sym, refl, ap, ◌∙◌, inl, inr, arith}
 use lib.Bits.{bit_and, and_le_l}
-use Rattle.std.proofs.lemmas.Bool.{cases_eq, cases_lt, eq-eqb, eqb_true, and_parts, and_from}
+use Rattle.std.proofs.lemmas.Bool.{cases_eq, cases_lt, eq-eqb, eqb-true, and_parts, and_from}
 use Rattle.graphs.specs.Rows.{bit}
 use Rattle.graphs.proofs.Bits.{bit_of_and, bit_past, same_rows}
 use Rattle.books.specs.Services.{served}
@@ -36,7 +36,7 @@ pub served_common : (k needs services : ℕ) → needs < 2 ^ k → eqb (bit_and 
 served_common k needs services lt =
     bool_ext (eqb (bit_and needs services) needs) (served k needs services)
     (λ e. served_by k needs services (λ b.
-    there (bit needs b) (bit services b) (sym (bit_of_and needs services b) ∙ ap (λ (x : ℕ). bit x b) (eqb_true (bit_and needs services) needs e))))
+    there (bit needs b) (bit services b) (sym (bit_of_and needs services b) ∙ ap (λ (x : ℕ). bit x b) (eqb-true (bit_and needs services) needs e))))
     (λ e. eq-eqb (bit_and needs services) needs (same_rows k (bit_and needs services) needs (omega (arith, and_le_l needs services)) lt (λ b.
     bit_of_and needs services b ∙ elim (cases_lt b k) [
       | inl below ↦ kept (bit needs b) (bit services b) (served_at k needs services e b below)

@@ -4,7 +4,7 @@ use native.Mathlib.Nat.{pow-succ'}
 use lib.Bits.{bit_and, bit_or, and_le_l}
 use lib.Count.{ones, ones_step, count_trailing_zeros}
 use Rattle.std.proofs.lemmas.Nat.{one_shl}
-use Rattle.std.proofs.lemmas.Bool.{both_ways, eqb_true, eq-eqb, ne_eqb, cases_eq, lt_ltb, cases_Bool, and_parts, and_from, or_cases, not_from_false}
+use Rattle.std.proofs.lemmas.Bool.{both_ways, eqb-true, eq-eqb, ne_eqb, cases_eq, lt-ltb, cases_Bool, and_parts, and_from, or_cases, not_from_false}
 use Rattle.graphs.specs.Rows.{bit, pairs}
 use Rattle.graphs.proofs.Bits.{bit_none, bit_of_and, bit_of_or, bit_one, bit_lowest, bit_below}
 use Rattle.graphs.proofs.Rows.{bit_all}
@@ -164,7 +164,7 @@ module _ (units keep : ℕ) (before : List ℕ) where
             get_or-set_other rows v u x 0 (λ z. both_ways (eqb v u) q.1 (eq-eqb v u (sym z))) ∙ h.same u q.0;
         only = λ u o. elim (or_cases (bit changed u) (eqb v u) (sym (bit_more changed v u lt) ∙ o)) [
           | inl s ↦ h.only u s
-          | inr s ↦ ap (bit units) (sym (eqb_true v u s)) ∙ h.left v (bit_lowest 64 rest l f)
+          | inr s ↦ ap (bit units) (sym (eqb-true v u s)) ∙ h.left v (bit_lowest 64 rest l f)
         ];
         counted = omega (arith, h.counted);
         still = λ z. absurd (ne (ones_same row x row (below_pow row) (λ b t. (parts b t).0) (omega arith)));
@@ -231,4 +231,4 @@ pub inside_all : (n m keep : ℕ) (rows : List ℕ) → n ≤ 64 → all_below n
     → (u b : ℕ) → pairs rows u b ≡ true → bit keep b ≡ true
 inside_all n m keep rows few h e is u b t =
     ap (λ (x : ℕ). bit x b) is ∙ (ap (λ (k : ℕ). bit (18446744073709551615 / 2 ^ (64 - k)) b) e
-    ∙ (bit_all n b few ∙ lt_ltb b n (bit_below (get_or rows u 0) n b (all_below_at n rows h u) t)))
+    ∙ (bit_all n b few ∙ lt-ltb b n (bit_below (get_or rows u 0) n b (all_below_at n rows h u) t)))

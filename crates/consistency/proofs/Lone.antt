@@ -3,7 +3,7 @@ use Rattle.std.proofs.Common.{◌≡◌, ℕ, ◌-◌, ◌/◌, ◌^◌, ◌<◌
 use lib.Bits.{bit_and, and_le_l, and_le_r}
 use lib.Count.{count_trailing_zeros}
 use lib.Pow.{shr_le}
-use Rattle.std.proofs.lemmas.Bool.{both_ways, eq-eqb, ne_eqb, lt_ltb, ltb-true, cases_eq, cases_Bool, and_parts, and_from, and_right, not-true, not_from_false}
+use Rattle.std.proofs.lemmas.Bool.{both_ways, eq-eqb, ne_eqb, lt-ltb, ltb-true, cases_eq, cases_Bool, and_parts, and_from, and_right, not-true, not_from_false}
 use Rattle.graphs.specs.Rows.{bit, row_of}
 use Rattle.graphs.specs.Graph.{Graph}
 use Rattle.graphs.proofs.Bits.{bit_none, bit_of_and, bit_lowest}
@@ -29,7 +29,7 @@ module _ (r : Graph) (few : r.count ≤ 64) (row : ℕ) where
       (p.0, ltb-true c r.count (sym (bit_all r.count c few) ∙ p.1))
 
   held_from : (c : ℕ) → bit row c ≡ true → c < r.count → bit held c ≡ true
-  held_from c e l = bit_of_and row all c ∙ and_from (bit row c) (bit all c) e (bit_all r.count c few ∙ lt_ltb c r.count l)
+  held_from c e l = bit_of_and row all c ∙ and_from (bit row c) (bit all c) e (bit_all r.count c few ∙ lt-ltb c r.count l)
 
   differs_from : (b c : ℕ) → bit held c ≡ true → (b ≡ c → ⊥) → differs b ≡ true
   differs_from b c e ne =

@@ -3,7 +3,7 @@ use Rattle.std.proofs.Common.{◌≡◌, ℕ, zero, suc, ◌-◌, ◌/◌, ◌%�
 use native.Mathlib.Nat.{pow-succ'}
 use lib.Bits.{bit_and, bit_or}
 use lib.Count.{count_trailing_zeros, under}
-use Rattle.std.proofs.lemmas.Bool.{both_ways, false≢true, ne_eqb, lt_ltb, ltb-true, cases_eq, cases_Bool, and_parts, and_from, and_left, or_cases, or_left, or_right, not_from_false}
+use Rattle.std.proofs.lemmas.Bool.{both_ways, false≢true, ne_eqb, lt-ltb, ltb-true, cases_eq, cases_Bool, and_parts, and_from, and_left, or_cases, or_left, or_right, not_from_false}
 use Rattle.std.proofs.lemmas.Bool.Decides.{nat_tests}
 use Rattle.graphs.specs.Rows.{bit, row_of}
 use Rattle.graphs.specs.Graph.{Graph}
@@ -88,7 +88,7 @@ module _ (r : Graph) (few : r.count ≤ 64) (out back k : Bool) (row other : ℕ
       (record {
         under = λ c e. ltb-true c r.count (and_parts (bit other c) (below c) (sym (bit_mask r.count other c few) ∙ e)).1;
         sum = λ b. ap (λ (t : Bool). below b && (bit row b && t)) (any_eq other (bit_and other (mask r.count)) r.count (agree b)
-            (λ c l. sym (bit_mask r.count other c few ∙ ap (λ (t : Bool). bit other c && t) (lt_ltb c r.count l) ∙ and_true (bit other c))))
+            (λ c l. sym (bit_mask r.count other c few ∙ ap (λ (t : Bool). bit other c && t) (lt-ltb c r.count l) ∙ and_true (bit other c))))
             ∙ sym (ap (λ (t : Bool). t || (below b && (bit row b && any_of (bit_and other (mask r.count)) r.count (agree b)))) (bit_none b));
       })
 

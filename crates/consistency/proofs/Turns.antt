@@ -2,7 +2,7 @@
 use Rattle.std.proofs.Common.{◌≡◌, ℕ, zero, suc, ◌+◌, ◌-◌, ◌*◌, ◌/◌, ◌%◌, ◌^◌, ◌<◌, ◌≤◌, Bool, true, false, cond, not, ◌&&◌, eqb, ltb, List, [], ◌∷◌, length, get_or, sym, refl, ap, ◌∙◌, subst, inl, inr, arith, pow_mono}
 use lib.Bits.{bit_and, bit_or, and_le_r, or_zero_r}
 use lib.Count.{count_trailing_zeros}
-use Rattle.std.proofs.lemmas.Bool.{both_ways, false≢true, ltb-true, lt_ltb, eq-eqb, ne_eqb, cases_eq, cases_Bool, and_parts, and_from, or_cases, not-true, not_from_false}
+use Rattle.std.proofs.lemmas.Bool.{both_ways, false≢true, ltb-true, lt-ltb, eq-eqb, ne_eqb, cases_eq, cases_Bool, and_parts, and_from, or_cases, not-true, not_from_false}
 use Rattle.graphs.specs.Rows.{bit, row_of}
 use Rattle.graphs.specs.Graph.{Graph, Sound}
 use Rattle.graphs.proofs.Bits.{bit_none, bit_of_or, bit_lowest, bits_below}
@@ -70,14 +70,14 @@ class_is a v m out back from to units em few lv ef et is =
     let part : (u : ℕ) → bit units u ≡ true → (ltb u m ≡ true) × (not (eqb u v) ≡ true) = λ u t. and_parts (ltb u m) (not (eqb u v)) (sym (others_low m v few lv u) ∙ (split u t).0) in
     let under : (u : ℕ) → bit units u ≡ true → u < a.count = λ u t. omega (arith, ltb-true u m (part u t).0) in
     let row : (p : ℕ → Bool) (w u : ℕ) → w ≡ row_of a.count p → u < a.count → bit w u ≡ p u = λ p w u e l.
-    ap (λ (z : ℕ). bit z u) e ∙ (bit_row_of a.count p u ∙ ap (λ (s : Bool). s && p u) (lt_ltb u a.count l)) in
+    ap (λ (z : ℕ). bit z u) e ∙ (bit_row_of a.count p u ∙ ap (λ (s : Bool). s && p u) (lt-ltb u a.count l)) in
     record {
       below = under;
       other = λ u t z. both_ways (eqb u v) (not-true (eqb u v) (part u t).1) (eq-eqb u v z);
       joined_to = λ u t. sym (row (λ w. a.joined w v) from u ef (under u t)) ∙ is_of out (bit from u) (and_parts (x u) (y u) (split u t).1).0;
       joined_from = λ u t. sym (row (λ w. a.joined v w) to u et (under u t)) ∙ is_of back (bit to u) (and_parts (x u) (y u) (split u t).1).1;
       each = λ u l ne eo eb. is u ∙ and_from (others u) (x u && y u)
-          (others_low m v few lv u ∙ and_from (ltb u m) (not (eqb u v)) (lt_ltb u m (omega arith)) (not_from_false (eqb u v) (ne_eqb u v ne)))
+          (others_low m v few lv u ∙ and_from (ltb u m) (not (eqb u v)) (lt-ltb u m (omega arith)) (not_from_false (eqb u v) (ne_eqb u v ne)))
           (and_from (x u) (y u)
           (of_is out (bit from u) (row (λ w. a.joined w v) from u ef l ∙ eo))
           (of_is back (bit to u) (row (λ w. a.joined v w) to u et l ∙ eb)));
@@ -115,7 +115,7 @@ module _ (a r : Graph) (few : r.count ≤ 64) (k : Bool) where
       → bit (revised r out back k 18446744073709551615 other) b ≡ true
   any_keep out back other b l e =
       bit_row_of r.count (λ c. bit 18446744073709551615 c && any_of other r.count (agrees_if r out back k c)) b
-      ∙ and_from (ltb b r.count) (bit 18446744073709551615 b && any_of other r.count (agrees_if r out back k b)) (lt_ltb b r.count l)
+      ∙ and_from (ltb b r.count) (bit 18446744073709551615 b && any_of other r.count (agrees_if r out back k b)) (lt-ltb b r.count l)
       (and_from (bit 18446744073709551615 b) (any_of other r.count (agrees_if r out back k b)) (bit_full b (omega arith)) e)
 
   module _ (v : ℕ) (lv : v < a.count) (out back : Bool) (units : ℕ) (cl : Class a v out back units) (ys zs : List ℕ) (cut : Cut)
@@ -239,7 +239,7 @@ module _ (a r : Graph) (few : r.count ≤ 64) (k : Bool) where
           but = λ p u v lu lv ne o. p u v lu lv ne
               (elim (cases_Bool (bit first v)) [
                 | inl s ↦ absurd (both_ways (bit (bit_and first (18446744073709551615 / 2 ^ (64 - m))) v) o
-                    (bit_mask m first v lm ∙ and_from (bit first v) (ltb v m) s (lt_ltb v m (omega arith))))
+                    (bit_mask m first v lm ∙ and_from (bit first v) (ltb v m) s (lt-ltb v m (omega arith))))
                 | inr s ↦ s
               ]);
         }

@@ -4,7 +4,7 @@ use Rattle.std.proofs.Common.{sym, ap, subst, ◌∙◌, inl, inr, arith}
 use Rattle.std.proofs.lemmas.List.FromFn.{length-map-range_with_len, get_or-map-range_with_len}
 use Rattle.std.proofs.lemmas.List.{ext_get_or}
 use Rattle.std.proofs.lemmas.Bool.Decides.{Decides-eqb, Decides-or}
-use Rattle.std.proofs.lemmas.Bool.{both_ways, eqb_true, eqb-false, lt_ltb, cases_eq, cases_Bool, and_parts, and_from, cond-true, cond-false}
+use Rattle.std.proofs.lemmas.Bool.{both_ways, eqb-true, eqb-false, lt-ltb, cases_eq, cases_Bool, and_parts, and_from, cond-true, cond-false}
 use Rattle.graphs.specs.Rows.{bit, pairs, row_of}
 use Rattle.graphs.specs.Graph.{Graph}
 use Rattle.graphs.proofs.Bits.{bit_none, bit_of_and, bits_below, same_rows}
@@ -70,7 +70,7 @@ module _ (a r : Graph) (k : Bool) where
   swept_from rows u b l t h e =
       swept_bit rows u b l
       ∙ and_from (bit (slice_index rows u) b) (nat_lt b r.count && supported_by a r k rows u b a.count) t
-      (and_from (nat_lt b r.count) (supported_by a r k rows u b a.count) (lt_ltb b r.count h) (by_all rows u b a.count e))
+      (and_from (nat_lt b r.count) (supported_by a r k rows u b a.count) (lt-ltb b r.count h) (by_all rows u b a.count e))
 
   swept_count : (rows : List ℕ) → length (swept a r k rows) ≡ length rows
   swept_count rows = length-map-range_with_len (swept_row a r k rows) 0 (length rows)
@@ -139,7 +139,7 @@ module _ (a r : Graph) (k : Bool) where
   repeat_fix zero rows l e = ap F (sweep_same rows e (omega arith))
   repeat_fix (suc n) rows l e =
       elim (cases_Bool (pair_count (F rows) == pair_count rows)) [
-        | inl t ↦ subst (λ (xs : List ℕ). F xs ≡ xs) (sym (cond-true (pair_count (F rows) == pair_count rows) (F rows) (repeat n F (F rows)) t)) (ap F (sweep_same rows e (omega (arith, eqb_true (pair_count (F rows)) (pair_count rows) t))))
+        | inl t ↦ subst (λ (xs : List ℕ). F xs ≡ xs) (sym (cond-true (pair_count (F rows) == pair_count rows) (F rows) (repeat n F (F rows)) t)) (ap F (sweep_same rows e (omega (arith, eqb-true (pair_count (F rows)) (pair_count rows) t))))
         | inr t ↦ let d = eqb-false (pair_count (F rows)) (pair_count rows) t in
             let m = pair_count_mono (F rows) rows (sweep_count rows) (sweep_inside rows) in
             subst (λ (xs : List ℕ). F xs ≡ xs) (sym (cond-false (pair_count (F rows) == pair_count rows) (F rows) (repeat n F (F rows)) t)) (repeat_fix n (F rows) (omega arith) (sweep_shaped rows e))

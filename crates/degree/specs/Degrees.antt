@@ -3,7 +3,7 @@ use Rattle.std.specs.Prelude.{◌≡◌, ℕ, zero, suc, ◌+◌, ◌-◌, ◌*�
 use Rattle.std.proofs.Common.{sym, ap, ap₂, subst, ◌∙◌, inl, inr, zero-le, arith, length-set, get_or-set_same, get_or-set_other}
 use Rattle.std.specs.Int.Bits.{bit_and, bit_or}
 use Rattle.std.proofs.lemmas.List.{length-replicate, get_or-replicate}
-use Rattle.std.proofs.lemmas.Bool.{cases_Bool, cases_eq, cases_lt, eq-eqb, ne_eqb, and_left, or_left, not_from_false, lt_ltb}
+use Rattle.std.proofs.lemmas.Bool.{cases_Bool, cases_eq, cases_lt, eq-eqb, ne_eqb, and_left, or_left, not_from_false, lt-ltb}
 use Rattle.std.proofs.lemmas.Bool.Decides.{nat_tests}
 use Rattle.graphs.specs.Rows.{bit, row_of}
 use Rattle.graphs.specs.Graph.{Graph, Sound}
@@ -158,7 +158,7 @@ rows_test a r s k u b row x y under ex ey =
     ]
   where
     at : (z j : ℕ) → b < r.count → z ≡ row_of r.count (λ c. ltb (degree_within r all_nodes c) j) → bit z b ≡ nat_lt (degree_within r all_nodes b) j
-    at z j l q = ap (λ (v : ℕ). bit v b) q ∙ bit_row_of r.count (λ c. ltb (degree_within r all_nodes c) j) b ∙ ap (λ (v : Bool). v && nat_lt (degree_within r all_nodes b) j) (lt_ltb b r.count l)
+    at z j l q = ap (λ (v : ℕ). bit v b) q ∙ bit_row_of r.count (λ c. ltb (degree_within r all_nodes c) j) b ∙ ap (λ (v : Bool). v && nat_lt (degree_within r all_nodes b) j) (lt-ltb b r.count l)
 
     not_fewer : (d e : ℕ) → not (nat_lt e d) ≡ nat_le d e
     not_fewer d e = grind (arith, nat_tests)

@@ -2,7 +2,7 @@
 use Rattle.std.proofs.Common.{◌≡◌, ℕ, zero, suc, ◌+◌, ◌<◌, ◌≤◌, Bool, true, false, cond, ◌&&◌, ltb, ◌⊎◌, List, [], ◌∷◌, length, get_or, set, sym, refl, ap, ◌∙◌, inl, inr, arith, length-set, get_or-set_other, get_or-set_same}
 use lib.Count.{ones}
 use Rattle.std.proofs.lemmas.List.{ext_get_or}
-use Rattle.std.proofs.lemmas.Bool.{cases_eq, cases_Bool, cond-true, cond-false, and_parts, and_from, and_right, lt_ltb}
+use Rattle.std.proofs.lemmas.Bool.{cases_eq, cases_Bool, cond-true, cond-false, and_parts, and_from, and_right, lt-ltb}
 use Rattle.graphs.specs.Rows.{bit, row_of, rows_of, Pairs, pairs}
 use Rattle.graphs.specs.Graph.{Graph, Sound}
 use Rattle.graphs.proofs.Rows.{row_is}
@@ -56,8 +56,8 @@ module _ (test : PairTest) (a r : Graph) (k : Bool) (rows : List ℕ) where
             let s = shape_of a r rows e in
             ap (λ (xs : List ℕ). pairs xs u b) (shaped_is e)
             ∙ pairs_rows a.count r.count (λ v c. pairs rows v c && test a r k v c) u b
-            ∙ and_from (ltb u a.count) (ltb b r.count && (pairs rows u b && test a r k u b)) (lt_ltb u a.count (s.unit u b t))
-            (and_from (ltb b r.count) (pairs rows u b && test a r k u b) (lt_ltb b r.count (s.under u b t)) (and_from (pairs rows u b) (test a r k u b) t p))
+            ∙ and_from (ltb u a.count) (ltb b r.count && (pairs rows u b && test a r k u b)) (lt-ltb u a.count (s.unit u b t))
+            (and_from (ltb b r.count) (pairs rows u b && test a r k u b) (lt-ltb b r.count (s.under u b t)) (and_from (pairs rows u b) (test a r k u b) t p))
         | inr e ↦ ap (λ (xs : List ℕ). pairs xs u b) (ill_is e) ∙ t
       ]
 
@@ -76,7 +76,7 @@ module _ (test : PairTest) (a r : Graph) (k : Bool) (rows : List ℕ) where
       under_too : Shape a r rows → (u b : ℕ) → (pairs rows u b && test a r k u b) ≡ (ltb b r.count && (pairs rows u b && test a r k u b))
       under_too s u b =
           elim (cases_Bool (pairs rows u b && test a r k u b)) [
-            | inl t ↦ t ∙ sym (and_from (ltb b r.count) (pairs rows u b && test a r k u b) (lt_ltb b r.count (s.under u b (and_parts (pairs rows u b) (test a r k u b) t).0)) t)
+            | inl t ↦ t ∙ sym (and_from (ltb b r.count) (pairs rows u b && test a r k u b) (lt-ltb b r.count (s.under u b (and_parts (pairs rows u b) (test a r k u b) t).0)) t)
             | inr t ↦ t ∙ sym (and_right (ltb b r.count) (pairs rows u b && test a r k u b) t)
           ]
 

@@ -4,7 +4,7 @@ use Rattle.std.proofs.Common.{sym, ap, subst, ◌∙◌, ⊎_elim, zero-le, mul-
 use Rattle.std.proofs.Math.Nat.{pow-succ'}
 use Rattle.std.specs.Int.Count.{ones_step}
 use Rattle.std.proofs.lemmas.Nat.{ones-le}
-use Rattle.std.proofs.lemmas.Bool.{ltb-true, leb-true, eqb_true, eqb-false, eq-eqb, and_parts, cases_Bool}
+use Rattle.std.proofs.lemmas.Bool.{ltb-true, leb-true, eqb-true, eqb-false, eq-eqb, and_parts, cases_Bool}
 use Rattle.std.proofs.lemmas.List.{take_more}
 use Rattle.graphs.specs.Rows.{bit, pairs}
 use Rattle.graphs.proofs.Bits.{bit_zero, bit_suc, bit_below, bits_below}
@@ -20,7 +20,7 @@ inside_half x y h b e = sym (bit_suc y b) ∙ h (suc b) (bit_suc x b ∙ e)
 pub low_inside : (x y : ℕ) → Part x y → x % 2 ≤ y % 2
 low_inside x y h =
     ⊎_elim
-    (λ e. omega (arith, eqb_true (x % 2) 1 e, eqb_true (y % 2) 1 (sym (bit_zero y) ∙ h 0 (bit_zero x ∙ e))))
+    (λ e. omega (arith, eqb-true (x % 2) 1 e, eqb-true (y % 2) 1 (sym (bit_zero y) ∙ h 0 (bit_zero x ∙ e))))
     (λ e. let n = eqb-false (x % 2) 1 e in omega arith)
     (cases_Bool (x % 2 == 1))
 

@@ -2,7 +2,7 @@
 use Rattle.std.specs.Prelude.{◌≡◌, ℕ, zero, suc, ◌+◌, ◌-◌, ◌*◌, ◌^◌, ◌<◌, ◌≤◌, Bool, true, false, ◌⊎◌, List, [], ◌∷◌, length, ◌==◌, ◌≢◌, slice_index, refl}
 use Rattle.std.proofs.Common.{sym, ap, subst, ◌∙◌, inl, inr, zero-le, arith}
 use Rattle.std.proofs.lemmas.Nat.{ones-le}
-use Rattle.std.proofs.lemmas.Bool.{eqb_true, eqb-false, eq-eqb, ne_eqb, cases_Bool, cases_lt, cond-true, cond-false, cond_both, both_ways}
+use Rattle.std.proofs.lemmas.Bool.{eqb-true, eqb-false, eq-eqb, ne_eqb, cases_Bool, cases_lt, cond-true, cond-false, cond_both, both_ways}
 use Rattle.std.proofs.lemmas.List.{get_or_past}
 use Rattle.graphs.specs.Rows.{bit, pairs}
 use Rattle.graphs.specs.Graph.{Graph, Sound}
@@ -96,7 +96,7 @@ module _ (f : Meaning) (l : Lawful f) (a r : Graph) (k : Bool) where
   enough (suc m) zero rows p q = stop (suc m) rows (let s = taken_less f l a r k rows in omega arith)
   enough (suc m) (suc n) rows p q =
       elim (cases_Bool (pair_count (f a r k rows) == pair_count rows)) [
-        | inl t ↦ let e = eqb_true _ _ t in stop (suc m) rows e ∙ sym (stop (suc n) rows e)
+        | inl t ↦ let e = eqb-true _ _ t in stop (suc m) rows e ∙ sym (stop (suc n) rows e)
         | inr t ↦
             let d = eqb-false _ _ t in
             let s = taken_less f l a r k rows in
@@ -141,7 +141,7 @@ module _ (f : Meaning) (l : Lawful f) (a r : Graph) (k : Bool) where
   settle zero rows le = settle_now zero rows (let s = taken_less f l a r k rows in omega arith)
   settle (suc n) rows le =
       elim (cases_Bool (pair_count (f a r k rows) == pair_count rows)) [
-        | inl t ↦ settle_now (suc n) rows (eqb_true _ _ t)
+        | inl t ↦ settle_now (suc n) rows (eqb-true _ _ t)
         | inr t ↦
             let d = eqb-false _ _ t in
             let s = taken_less f l a r k rows in

@@ -3,7 +3,7 @@ use Rattle.std.specs.Prelude.{◌≡◌, ℕ, zero, suc, ◌+◌, ◌-◌, ◌*�
 use Rattle.std.proofs.Common.{sym, ap, ◌∙◌, inl, inr, ⊎_elim, mul-le-mul_right, arith, pow_pos, pow_mono}
 use Rattle.std.specs.Int.Count.{ones}
 use Rattle.std.proofs.lemmas.List.{get_or_past}
-use Rattle.std.proofs.lemmas.Bool.{both_ways, ltb-true, leb-true, eqb_true, lt_ltb, le-leb, eq-eqb, cases_lt, cases_Bool, and_parts, and_from}
+use Rattle.std.proofs.lemmas.Bool.{both_ways, ltb-true, leb-true, eqb-true, lt-ltb, le-leb, eq-eqb, cases_lt, cases_Bool, and_parts, and_from}
 use Rattle.graphs.specs.Rows.{bit, pairs}
 use Rattle.graphs.specs.Graph.{Graph, Sound}
 use Rattle.graphs.proofs.Bits.{bit_none, bit_below, bits_below}
@@ -17,7 +17,7 @@ all_below_at n (x ∷ xs) e (suc u) = all_below_at n xs (and_parts (nat_lt x (2 
 
 pub all_below_from : (n : ℕ) (rows : List ℕ) → ((u : ℕ) → slice_index rows u < 2 ^ n) → all_below n rows ≡ true
 all_below_from n [] h = refl
-all_below_from n (x ∷ xs) h = and_from (nat_lt x (2 ^ n)) (all_below n xs) (lt_ltb x (2 ^ n) (h 0)) (all_below_from n xs (λ u. h (suc u)))
+all_below_from n (x ∷ xs) h = and_from (nat_lt x (2 ^ n)) (all_below n xs) (lt-ltb x (2 ^ n) (h 0)) (all_below_from n xs (λ u. h (suc u)))
 
 pub pair_count_same : (n : ℕ) (xs ys : List ℕ) → length xs ≡ length ys → all_below n ys ≡ true → Inside xs ys → pair_count ys ≤ pair_count xs → xs ≡ ys
 pair_count_same n [] [] l s w e = refl
@@ -50,7 +50,7 @@ pub shape_of : (a r : Graph) (rows : List ℕ) → shaped a r rows ≡ true → 
 shape_of a r rows e =
     let p = and_parts (length rows == a.count && nat_le a.count 24) (all_below r.count rows) e in
     let q = and_parts (length rows == a.count) (nat_le a.count 24) p.0 in
-    let m = eqb_true (length rows) a.count q.0 in
+    let m = eqb-true (length rows) a.count q.0 in
     record {
       many = m;
       few = leb-true a.count 24 q.1;
@@ -86,7 +86,7 @@ pub shaped_few : (a r : Graph) (rows : List ℕ) → Sound r → shaped a r rows
 shaped_few a r rows s e =
     let p = and_parts (length rows == a.count && nat_le a.count 24) (all_below r.count rows) e in
     let q = and_parts (length rows == a.count) (nat_le a.count 24) p.0 in
-    let l : length rows ≤ 24 = omega (arith, eqb_true (length rows) a.count q.0, leb-true a.count 24 q.1) in
+    let l : length rows ≤ 24 = omega (arith, eqb-true (length rows) a.count q.0, leb-true a.count 24 q.1) in
     let b = pair_count_below r.count rows p.1 in
     let m = mul-le-mul_right r.count l in
     omega (arith, s.few)
@@ -109,7 +109,7 @@ widest (x ∷ xs) =
     let n : ℕ = x + t.0 in (
       n,
       and_from (nat_lt x (2 ^ n)) (all_below n xs)
-          (lt_ltb x (2 ^ n) (let p = below_pow x in let m : 2 ^ x ≤ 2 ^ n = pow_mono (omega arith) in omega arith))
+          (lt-ltb x (2 ^ n) (let p = below_pow x in let m : 2 ^ x ≤ 2 ^ n = pow_mono (omega arith) in omega arith))
           (all_below_from n xs (λ u. let b = all_below_at t.0 xs t.1 u in let m : 2 ^ t.0 ≤ 2 ^ n = pow_mono (omega arith) in omega arith)),
     )
 

@@ -4,7 +4,7 @@ use native.Mathlib.Nat.{div-div-eq-div-mul, pow-succ', div-eq_of_lt}
 use lib.Bits.{bit_and, bit_or, and_shr, and_mod, or_shr, or_mod}
 use lib.Count.{count_trailing_zeros, under}
 use Rattle.std.proofs.lemmas.Nat.{div-add-mod', mod_below}
-use Rattle.std.proofs.lemmas.Bool.{eq-eqb, ne_eqb, cases_lt, cases_Bool, both_ways, le_ltb, lt_ltb}
+use Rattle.std.proofs.lemmas.Bool.{eq-eqb, ne_eqb, cases_lt, cases_Bool, both_ways, le-ltb, lt-ltb}
 use Rattle.std.proofs.lemmas.Bool.Decides.{nat_tests}
 use Rattle.graphs.specs.Rows.{bit}
 
@@ -126,14 +126,14 @@ unfolding bit
 bit_shr x k c = ap (λ (n : ℕ). eqb (n % 2) 1) (shr-shr x k c)
 
 pub bit_not : (k x c : ℕ) → x < 2 ^ k → bit ((2 ^ k - 1) - x) c ≡ (ltb c k && not (bit x c))
-bit_not zero x c h = ap (λ (n : ℕ). bit n c) (let z : (2 ^ 0 - 1) - x ≡ 0 = omega arith in z) ∙ bit_none c ∙ sym (ap (λ (t : Bool). t && not (bit x c)) (le_ltb c 0 (omega arith)))
+bit_not zero x c h = ap (λ (n : ℕ). bit n c) (let z : (2 ^ 0 - 1) - x ≡ 0 = omega arith in z) ∙ bit_none c ∙ sym (ap (λ (t : Bool). t && not (bit x c)) (le-ltb c 0 (omega arith)))
 bit_not (suc k) x zero h =
     bit_zero ((2 ^ suc k - 1) - x)
     ∙ elim (digit_cases (x % 2) (omega arith)) [
       | inl z ↦ eq-eqb (((2 ^ suc k - 1) - x) % 2) 1 (omega (arith, pow-succ' 2 k, pow_pos k))
-          ∙ sym (ap (λ (t : Bool). ltb 0 (suc k) && not t) (bit_zero x ∙ ne_eqb (x % 2) 1 (λ e. omega arith)) ∙ ap (λ (t : Bool). t && true) (lt_ltb 0 (suc k) (omega arith)))
+          ∙ sym (ap (λ (t : Bool). ltb 0 (suc k) && not t) (bit_zero x ∙ ne_eqb (x % 2) 1 (λ e. omega arith)) ∙ ap (λ (t : Bool). t && true) (lt-ltb 0 (suc k) (omega arith)))
       | inr z ↦ ne_eqb (((2 ^ suc k - 1) - x) % 2) 1 (λ e. omega (arith, pow-succ' 2 k, pow_pos k))
-          ∙ sym (ap (λ (t : Bool). ltb 0 (suc k) && not t) (bit_zero x ∙ eq-eqb (x % 2) 1 z) ∙ ap (λ (t : Bool). t && false) (lt_ltb 0 (suc k) (omega arith)))
+          ∙ sym (ap (λ (t : Bool). ltb 0 (suc k) && not t) (bit_zero x ∙ eq-eqb (x % 2) 1 z) ∙ ap (λ (t : Bool). t && false) (lt-ltb 0 (suc k) (omega arith)))
     ]
 bit_not (suc k) x (suc c) h =
     bit_suc ((2 ^ suc k - 1) - x) c

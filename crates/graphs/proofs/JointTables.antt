@@ -1,7 +1,7 @@
 -- The graph of a joint table is sound and symmetric where the table is lawful. Assumes nothing.
 use Rattle.std.proofs.Common.{◌≡◌, ℕ, ◌^◌, ◌<◌, ◌≤◌, Bool, false, ◌&&◌, ltb, List, length, get_or, sym, ap, ◌∙◌, inl, inr, ⊎_elim, arith}
 use Rattle.std.proofs.lemmas.List.{get_or_past}
-use Rattle.std.proofs.lemmas.Bool.{cases_lt, le_ltb, lt_ltb}
+use Rattle.std.proofs.lemmas.Bool.{cases_lt, le-ltb, lt-ltb}
 use Rattle.graphs.specs.Rows.{bit, row_of}
 use Rattle.graphs.specs.Graph.{Graph, Sound, Symmetric}
 use Rattle.graphs.specs.JointTable.{table_graph, TableLawful}
@@ -59,6 +59,6 @@ pub table_row : (rows : List ℕ) (a : ℕ) → length rows ≤ 64 → get_or ro
 table_row rows a l h y =
     is_row_of (length rows) (get_or rows a 0) (λ b. bit (get_or rows a 0) b) l h
     (λ c. elim (cases_lt c (length rows)) [
-      | inl z ↦ sym (ap (λ (t : Bool). t && bit (get_or rows a 0) c) (lt_ltb c (length rows) z))
-      | inr z ↦ y a c ∙ table_out rows c a z ∙ sym (ap (λ (t : Bool). t && bit (get_or rows a 0) c) (le_ltb c (length rows) z))
+      | inl z ↦ sym (ap (λ (t : Bool). t && bit (get_or rows a 0) c) (lt-ltb c (length rows) z))
+      | inr z ↦ y a c ∙ table_out rows c a z ∙ sym (ap (λ (t : Bool). t && bit (get_or rows a 0) c) (le-ltb c (length rows) z))
     ])

@@ -4,7 +4,7 @@ use native.Mathlib.Nat.{pow-succ'}
 use lib.Bits.{bit_and, bit_or, and_le_l}
 use lib.Pow.{shr_le}
 use Rattle.std.proofs.lemmas.Nat.{one_shl}
-use Rattle.std.proofs.lemmas.Bool.{and_parts, ltb-true, eq-eqb, ne_eqb, cases_eq, le_ltb, lt_ltb}
+use Rattle.std.proofs.lemmas.Bool.{and_parts, ltb-true, eq-eqb, ne_eqb, cases_eq, le-ltb, lt-ltb}
 use Rattle.std.proofs.lemmas.Bool.Decides.{nat_tests}
 use Rattle.graphs.specs.Rows.{bit, row_from, row_of}
 use Rattle.graphs.proofs.Bits.{bit_of_and, bit_of_or, bit_one, bit_shr, bit_not, bit_none, bit_zero, bit_suc, bits_below, same_rows}
@@ -20,10 +20,10 @@ bool_half false y = omega arith
 -- a row holds the bays that pass its test
 pub bit_row_from : (b : ℕ) (p : ℕ → Bool) (k c : ℕ) → bit (row_from b p k) c ≡ (ltb c k && p (b + c))
 unfolding row_from
-bit_row_from b p zero c = bit_none c ∙ sym (ap (λ (t : Bool). t && p (b + c)) (le_ltb c 0 (omega arith)))
+bit_row_from b p zero c = bit_none c ∙ sym (ap (λ (t : Bool). t && p (b + c)) (le-ltb c 0 (omega arith)))
 bit_row_from b p (suc k) zero =
     bit_zero (row_from b p (suc k)) ∙ bool_digit (p b) (row_from (suc b) p k)
-    ∙ ap p (sym (add-zero b)) ∙ sym (ap (λ (t : Bool). t && p (b + 0)) (lt_ltb 0 (suc k) (omega arith)))
+    ∙ ap p (sym (add-zero b)) ∙ sym (ap (λ (t : Bool). t && p (b + 0)) (lt-ltb 0 (suc k) (omega arith)))
 bit_row_from b p (suc k) (suc c) =
     bit_suc (row_from b p (suc k)) c ∙ ap (λ (n : ℕ). bit n c) (bool_half (p b) (row_from (suc b) p k))
     ∙ bit_row_from (suc b) p k c
@@ -85,14 +85,14 @@ abbrev pub Upto : ℕ → (ℕ → Bool) → ℕ → Type 0
 Upto b p x = (k : ℕ) → bit x k ≡ (ltb k b && p k)
 
 pub upto_none : (p : ℕ → Bool) → Upto 0 p 0
-upto_none p k = bit_none k ∙ sym (ap (λ (t : Bool). t && p k) (le_ltb k 0 (omega arith)))
+upto_none p k = bit_none k ∙ sym (ap (λ (t : Bool). t && p k) (le-ltb k 0 (omega arith)))
 
 pub upto_set : (p : ℕ → Bool) (x b : ℕ) → b < 64 → Upto b p x → p b ≡ true → Upto (b + 1) p (bit_or x ((1 * 2 ^ b) % 18446744073709551616))
 upto_set p x b l h e k =
     bit_of_or x ((1 * 2 ^ b) % 18446744073709551616) k
     ∙ ap (λ (t : Bool). bit x k || t) (ap (λ (y : ℕ). bit y k) (one_shl b 64 l) ∙ bit_one b k)
     ∙ elim (cases_eq b k) [
-      | inl z ↦ ap (λ (t : Bool). bit x k || t) (eq-eqb b k z) ∙ or_true (bit x k) ∙ sym (ap (λ (t : Bool). t && p k) (lt_ltb k (b + 1) (omega arith)) ∙ ap p (sym z) ∙ e)
+      | inl z ↦ ap (λ (t : Bool). bit x k || t) (eq-eqb b k z) ∙ or_true (bit x k) ∙ sym (ap (λ (t : Bool). t && p k) (lt-ltb k (b + 1) (omega arith)) ∙ ap p (sym z) ∙ e)
       | inr ne ↦ ap (λ (t : Bool). bit x k || t) (ne_eqb b k ne) ∙ or_false (bit x k) ∙ h k ∙ ap (λ (t : Bool). t && p k) (let z : ltb k b ≡ ltb k (b + 1) = grind (arith, nat_tests) in z)
     ]
   where

@@ -3,7 +3,7 @@ use Rattle.std.proofs.Common.{◌≡◌, ℕ, ◌+◌, ◌-◌, ◌*◌, ◌/◌
 use lib.Arith.{digits_div, digits_lt}
 use lib.Bits.{bit_or}
 use Rattle.std.proofs.lemmas.Nat.{one_shl, div-add-mod', div_below, mod_below}
-use Rattle.std.proofs.lemmas.Bool.{ltb-true, leb-true, eqb_true, lt_ltb, le-leb, eq-eqb, cases_lt, and_parts, and_from, or_cases, or_left, or_right}
+use Rattle.std.proofs.lemmas.Bool.{ltb-true, leb-true, eqb-true, lt-ltb, le-leb, eq-eqb, cases_lt, and_parts, and_from, or_cases, or_left, or_right}
 use Rattle.std.proofs.lemmas.Bool.Decides.{nat_tests}
 use Rattle.graphs.specs.Rows.{bit, row_of}
 use Rattle.graphs.specs.Graph.{Sound, Symmetric}
@@ -87,33 +87,33 @@ module _ (w h a : ℕ) (p : 1 ≤ w) (la : a < w * h) where
   upward k = eqb (a + w) k || eqb (k + w) a
 
   whole : (k : ℕ) → k < n → (across k || upward k) ≡ true → (ltb k n && wall_joined w n a k) ≡ true
-  whole k l e = and_from (ltb k n) (wall_joined w n a k) (lt_ltb k n l) (and_from (ltb a n && ltb k n) (across k || upward k) (and_from (ltb a n) (ltb k n) (lt_ltb a n la) (lt_ltb k n l)) e)
+  whole k l e = and_from (ltb k n) (wall_joined w n a k) (lt-ltb k n l) (and_from (ltb a n && ltb k n) (across k || upward k) (and_from (ltb a n) (ltb k n) (lt-ltb a n la) (lt-ltb k n l)) e)
 
   there : (k : ℕ) → near k ≡ true → (ltb k n && wall_joined w n a k) ≡ true
   there k t =
       elim (or_cases (((false || (ltb 0 (a % w) && eqb (a - 1) k)) || (ltb (a % w + 1) w && eqb (a + 1) k)) || (leb w a && eqb (a - w) k)) (ltb (a + w) n && eqb (a + w) k) t) [
         | inr d ↦
             let q = and_parts (ltb (a + w) n) (eqb (a + w) k) d in
-            let e = eqb_true (a + w) k q.1 in
+            let e = eqb-true (a + w) k q.1 in
             let l = ltb-true (a + w) n q.0 in
             whole k (omega arith) (or_right (across k) (upward k) (or_left (eqb (a + w) k) (eqb (k + w) a) q.1))
         | inl t2 ↦ elim (or_cases ((false || (ltb 0 (a % w) && eqb (a - 1) k)) || (ltb (a % w + 1) w && eqb (a + 1) k)) (leb w a && eqb (a - w) k) t2) [
           | inr d ↦
               let q = and_parts (leb w a) (eqb (a - w) k) d in
-              let e = eqb_true (a - w) k q.1 in
+              let e = eqb-true (a - w) k q.1 in
               let l = leb-true w a q.0 in
               whole k (omega arith) (or_right (across k) (upward k) (or_right (eqb (a + w) k) (eqb (k + w) a) (eq-eqb (k + w) a (omega arith))))
           | inl t3 ↦ elim (or_cases (false || (ltb 0 (a % w) && eqb (a - 1) k)) (ltb (a % w + 1) w && eqb (a + 1) k) t3) [
             | inr d ↦
                 let q = and_parts (ltb (a % w + 1) w) (eqb (a + 1) k) d in
-                let e = eqb_true (a + 1) k q.1 in
+                let e = eqb-true (a + 1) k q.1 in
                 let l = ltb-true (a % w + 1) w q.0 in
                 let b = right_below l in
                 whole k (omega arith) (or_left (across k) (upward k) (and_from (eqb (a / w) (k / w)) (eqb (a + 1) k || eqb (k + 1) a)
                 (eq-eqb (a / w) (k / w) (sym (ap (λ (y : ℕ). y / w) (sym e) ∙ right_level l))) (or_left (eqb (a + 1) k) (eqb (k + 1) a) q.1)))
             | inl t4 ↦
                 let q = and_parts (ltb 0 (a % w)) (eqb (a - 1) k) t4 in
-                let e = eqb_true (a - 1) k q.1 in
+                let e = eqb-true (a - 1) k q.1 in
                 let l = ltb-true 0 (a % w) q.0 in
                 let k1 : k + 1 ≡ a = omega (arith, parts) in
                 whole k (omega arith) (or_left (across k) (upward k) (and_from (eqb (a / w) (k / w)) (eqb (a + 1) k || eqb (k + 1) a)
@@ -134,27 +134,27 @@ module _ (w h a : ℕ) (p : 1 ≤ w) (la : a < w * h) where
       elim (or_cases (across k) (upward k) (and_parts (ltb a n && ltb k n) (across k || upward k) q.1).1) [
         | inl x ↦
             let y = and_parts (eqb (a / w) (k / w)) (eqb (a + 1) k || eqb (k + 1) a) x in
-            let level = eqb_true (a / w) (k / w) y.0 in
+            let level = eqb-true (a / w) (k / w) y.0 in
             elim (or_cases (eqb (a + 1) k) (eqb (k + 1) a) y.1) [
               | inl z ↦
-                  let e = eqb_true (a + 1) k z in
+                  let e = eqb-true (a + 1) k z in
                   let r : a % w + 1 < w = elim (cases_lt (a % w + 1) w) [
                     | inl o ↦ o
                     | inr o ↦ absurd (omega (arith, right_next (omega arith), ap (λ (y : ℕ). y / w) e))
                   ] in
-                  or_left (((false || A) || B) || C) D (or_left ((false || A) || B) C (or_right (false || A) B (and_from (ltb (a % w + 1) w) (eqb (a + 1) k) (lt_ltb (a % w + 1) w r) z)))
+                  or_left (((false || A) || B) || C) D (or_left ((false || A) || B) C (or_right (false || A) B (and_from (ltb (a % w + 1) w) (eqb (a + 1) k) (lt-ltb (a % w + 1) w r) z)))
               | inr z ↦
-                  let e = eqb_true (k + 1) a z in
+                  let e = eqb-true (k + 1) a z in
                   let r : 0 < a % w = elim (cases_lt 0 (a % w)) [
                     | inl o ↦ o
                     | inr o ↦ absurd (omega (arith, parts, div-add-mod' k w, ap (λ (y : ℕ). y * w) level))
                   ] in
-                  or_left (((false || A) || B) || C) D (or_left ((false || A) || B) C (or_left (false || A) B (and_from (ltb 0 (a % w)) (eqb (a - 1) k) (lt_ltb 0 (a % w) r) (eq-eqb (a - 1) k (omega arith)))))
+                  or_left (((false || A) || B) || C) D (or_left ((false || A) || B) C (or_left (false || A) B (and_from (ltb 0 (a % w)) (eqb (a - 1) k) (lt-ltb 0 (a % w) r) (eq-eqb (a - 1) k (omega arith)))))
             ]
         | inr x ↦ elim (or_cases (eqb (a + w) k) (eqb (k + w) a) x) [
-          | inl z ↦ let e = eqb_true (a + w) k z in
-              or_right (((false || A) || B) || C) D (and_from (ltb (a + w) n) (eqb (a + w) k) (lt_ltb (a + w) n (omega arith)) z)
-          | inr z ↦ let e = eqb_true (k + w) a z in
+          | inl z ↦ let e = eqb-true (a + w) k z in
+              or_right (((false || A) || B) || C) D (and_from (ltb (a + w) n) (eqb (a + w) k) (lt-ltb (a + w) n (omega arith)) z)
+          | inr z ↦ let e = eqb-true (k + w) a z in
               or_left (((false || A) || B) || C) D (or_right ((false || A) || B) C (and_from (leb w a) (eqb (a - w) k) (le-leb w a (omega arith)) (eq-eqb (a - w) k (omega arith))))
         ]
       ]

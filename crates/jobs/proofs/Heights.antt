@@ -1,6 +1,6 @@
 -- Heights as bytes, and heights and kinds in their arrays. Assumes nothing.
 use Rattle.std.proofs.Common.{◌≡◌, ℕ, zero, suc, ◌+◌, ◌*◌, ◌^◌, ◌<◌, ◌≤◌, ◌≢◌, List, [], ◌∷◌, ◌++◌, length, get_or, take, drop, set, replicate, sym, refl, ap, ◌∙◌, subst, ap₂, inl, inr, arith, length-append, length-drop, length-set, below_more}
-use Rattle.std.proofs.lemmas.List.{drop_at, ext_get_or, get_or_append_left, get_or_append_right, get_or-drop, get_or-set_other, get_or-set_same, get_or_take, length_take_le, take-append-drop, take_at}
+use Rattle.std.proofs.lemmas.List.{drop_at, ext_get_or, get_or_append_left, get_or-append_right, get_or-drop, get_or-set_other, get_or-set_same, get_or-take, length-take-le, take-append-drop, take_at}
 use Rattle.std.proofs.lemmas.Bool.{cases_lt}
 use Rattle.tables.specs.Bytes.{Bytes, bytes_of, from_bytes}
 use Rattle.tables.proofs.Accepted.{length_bytes_of, bytes_of_value, value_of_bytes}
@@ -31,7 +31,7 @@ heights_bytes_below [] i = omega arith
 heights_bytes_below (h ∷ hs) i =
     elim (cases_lt i 2) [
       | inl l ↦ subst (λ (x : ℕ). x < 256) (sym (get_or_append_left (bytes_of 2 h) (heights_bytes hs) 0 i (omega (arith, length_bytes_of 2 h)))) (byte_below 2 h i)
-      | inr g ↦ subst (λ (x : ℕ). x < 256) (sym (get_or_append_right (bytes_of 2 h) (heights_bytes hs) 2 i 0 (length_bytes_of 2 h) g)) (heights_bytes_below hs _)
+      | inr g ↦ subst (λ (x : ℕ). x < 256) (sym (get_or-append_right (bytes_of 2 h) (heights_bytes hs) 2 i 0 (length_bytes_of 2 h) g)) (heights_bytes_below hs _)
     ]
 
 pub heights_back : (n : ℕ) (hs : List ℕ) → HeightsLawful n hs → heights_of n (heights_bytes hs) ≡ hs
@@ -102,14 +102,14 @@ filled_more f k x array g l e =
 
 pub filled_all : (f : ℕ → ℕ) (n k : ℕ) (array xs : List ℕ) → Filled f k array → n ≤ k → n ≤ 64 → length xs ≡ n → ((i : ℕ) → i < n → get_or xs i 0 ≡ f i) → take n array ≡ xs
 filled_all f n k array xs g l few long each =
-    let whole : length (take n array) ≡ n = length_take_le n array (omega (arith, g.long)) in
+    let whole : length (take n array) ≡ n = length-take-le n array (omega (arith, g.long)) in
     ext_get_or 0 (take n array) xs (whole ∙ sym long)
-    (λ i h. get_or_take n array i 0 (omega arith) ∙ g.held i (omega arith) ∙ sym (each i (omega arith)))
+    (λ i h. get_or-take n array i 0 (omega arith) ∙ g.held i (omega arith) ∙ sym (each i (omega arith)))
 
 -- the kinds are the bytes of their part, and the heights what two bytes each write
 pub kinds_filled : (bs : List ℕ) (n k : ℕ) (array : List ℕ) → Filled (λ i. get_or bs i 0) k array → n ≤ k → n ≤ 64 → n ≤ length bs → take n array ≡ take n bs
 kinds_filled bs n k array g l few long =
-    filled_all (λ i. get_or bs i 0) n k array (take n bs) g l few (length_take_le n bs long) (λ i h. get_or_take n bs i 0 h)
+    filled_all (λ i. get_or bs i 0) n k array (take n bs) g l few (length-take-le n bs long) (λ i h. get_or-take n bs i 0 h)
 
 abbrev pub height_at : List ℕ → ℕ → ℕ
 height_at bs i = get_or bs (2 * i) 0 + 256 * get_or bs (2 * i + 1) 0
@@ -118,4 +118,4 @@ pub heights_filled : (bs : List ℕ) (n k : ℕ) (array : List ℕ) → Filled (
 heights_filled bs n k array g l few =
     filled_all (height_at bs) n k array (heights_of n (take (2 * n) bs)) g l few (length_heights_of n (take (2 * n) bs))
     (λ i h. get_or_heights_of n (take (2 * n) bs) i h
-    ∙ ap₂ (λ x y. x + 256 * y) (get_or_take (2 * n) bs (2 * i) 0 (omega arith)) (get_or_take (2 * n) bs (2 * i + 1) 0 (omega arith)))
+    ∙ ap₂ (λ x y. x + 256 * y) (get_or-take (2 * n) bs (2 * i) 0 (omega arith)) (get_or-take (2 * n) bs (2 * i + 1) 0 (omega arith)))

@@ -1,7 +1,7 @@
 -- Jobs are an exact part. Assumes nothing.
 use Rattle.std.proofs.Common.{◌≡◌, ℕ, zero, suc, ◌+◌, ◌*◌, ◌<◌, ◌≤◌, Bool, true, cond, ◌&&◌, eqb, leb, List, [], ◌∷◌, ◌++◌, length, get_or, take, sym, refl, ap, ◌∙◌, ap₂, arith}
 use Rattle.std.proofs.lemmas.List.{take_all}
-use Rattle.std.proofs.lemmas.Bool.{and_from, and_parts, eq-eqb, eqb_true, false≢true, leb-true}
+use Rattle.std.proofs.lemmas.Bool.{and_from, and_parts, eq-eqb, eqb-true, false≢true, leb-true}
 use Rattle.sources.specs.Faults.{fault_at}
 use Rattle.tables.specs.Bytes.{Bytes, bytes_of, from_bytes}
 use Rattle.tables.specs.Form.{Form, Lawful}
@@ -136,7 +136,7 @@ sizes_true units bays f l = and_from _ _ (eq-eqb (length f.rows) units l.units_s
 sizes_from : (units bays : ℕ) (f : Form) → Struck units bays f → StruckLawful units bays f
 sizes_from units bays f l =
     let s = and_parts _ _ l.1 in
-    record { plan = l.0; units_same = eqb_true (length f.rows) units s.0; bays_same = eqb_true f.columns bays s.1 }
+    record { plan = l.0; units_same = eqb-true (length f.rows) units s.0; bays_same = eqb-true f.columns bays s.1 }
 
 tested_from : (f : Form) → Tested f → JointsLawful f
 tested_from f l = record { table = l.0; joints = (joint_decides f).0 l.1 }

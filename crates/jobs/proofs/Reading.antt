@@ -1,7 +1,7 @@
 -- Readers that are put together, where their parts fail and where they are done. Assumes nothing.
 use Rattle.std.proofs.Common.{◌≡◌, ℕ, ◌+◌, ◌-◌, ◌<◌, ◌≤◌, Bool, true, false, cond, ltb, List, length, take, drop, Ok, Err, Result, ap, ◌∙◌, arith, length-drop}
 use Rattle.std.proofs.lemmas.List.{take_rest}
-use Rattle.std.proofs.lemmas.Bool.{cond-false, cond-true, le_ltb, lt_ltb}
+use Rattle.std.proofs.lemmas.Bool.{cond-false, cond-true, le-ltb, lt-ltb}
 use Rattle.tables.specs.Parts.{and_then, Reader, some_bytes, after, checked, inside, turned}
 
 module _ {X Y E : Type 0} (first : Reader X E) (second : X → Reader Y E) (input : List ℕ) (at : ℕ) where
@@ -47,10 +47,10 @@ module _ {X E : Type 0} (read : Reader X E) (input : List ℕ) (at : ℕ) where
 
 module _ {E : Type 0} (n : ℕ) (ended : ℕ → E) (input : List ℕ) (at : ℕ) where
   pub bytes_fail : length input < at + n → at ≤ length input → some_bytes n ended input at ≡ Err (ended (length input))
-  bytes_fail h l = cond-true (ltb (length (drop at input)) n) _ _ (lt_ltb (length (drop at input)) n (omega (arith, length-drop at input)))
+  bytes_fail h l = cond-true (ltb (length (drop at input)) n) _ _ (lt-ltb (length (drop at input)) n (omega (arith, length-drop at input)))
 
   pub bytes_done : at + n ≤ length input → some_bytes n ended input at ≡ Ok (take n (drop at input), at + n)
-  bytes_done h = cond-false (ltb (length (drop at input)) n) _ _ (le_ltb (length (drop at input)) n (omega (arith, length-drop at input)))
+  bytes_done h = cond-false (ltb (length (drop at input)) n) _ _ (le-ltb (length (drop at input)) n (omega (arith, length-drop at input)))
 
 -- what stands from a place on is as long as the input is from there
 pub length_part : (input : List ℕ) (at : ℕ) → length (take (length input - at) (drop at input)) ≡ length input - at

@@ -1,6 +1,6 @@
 -- The ledger's find is the first wanted placement. Assumes nothing.
 use Rattle.std.proofs.Common.{◌≡◌, ℕ, ◌<◌, Bool, true, false, cond, ◌&&◌, eqb, ◌⊎◌, List, length, get_or, Some, None, Decides, Option, sym, refl, ap, ◌∙◌, subst, ap₂, inl, inr, ⊎_elim, arith}
-use Rattle.std.proofs.lemmas.Bool.{cases_eq, eq-eqb, ne_eqb, eqb_true, and_parts}
+use Rattle.std.proofs.lemmas.Bool.{cases_eq, eq-eqb, ne_eqb, eqb-true, and_parts}
 use Rattle.std.proofs.lemmas.Bool.Decides.{Decides-and, Decides-like}
 use Rattle.graphs.specs.Rows.{Pairs}
 use Rattle.placements.specs.Placement.{Placement, Within}
@@ -40,7 +40,7 @@ held_in r u b k x h =
     ⊎_elim
     (λ e.
     let parts = and_parts (r k x) (eqb b x) (sym (ap (λ t. cond t (r k x && eqb b x) (r k x)) (eq-eqb u k e)) ∙ h) in
-    (parts.0, λ e'. eqb_true b x parts.1))
+    (parts.0, λ e'. eqb-true b x parts.1))
     (λ ne. (sym (ap (λ t. cond t (r k x && eqb b x) (r k x)) (ne_eqb u k ne)) ∙ h, λ e. absurd (ne e))) (cases_eq u k)
 
 held_of : (r : Pairs) (u b k x : ℕ) → r k x ≡ true → (u ≡ k → b ≡ x) → held_to r u b k x ≡ true

@@ -1,7 +1,7 @@
 -- Ledgers that a plan can hold, and that accepted calls keep so. Assumes nothing.
 use Rattle.std.proofs.Common.{◌≡◌, ℕ, ◌<◌, ◌≤◌, Bool, true, false, not, ◌&&◌, ◌||◌, eqb, ltb, ◌⊎◌, List, [], ◌∷◌, length, get_or, Some, None, Ok, Err, Option, Result, sym, refl, ap, ◌∙◌, subst, ap₂, ⊎_elim, arith}
 use Rattle.std.proofs.lemmas.List.{get_or_past}
-use Rattle.std.proofs.lemmas.Bool.{cases_lt, le_ltb, ne_eqb}
+use Rattle.std.proofs.lemmas.Bool.{cases_lt, le-ltb, ne_eqb}
 use Rattle.refusals.specs.declared.Reason.TheVariants as R
 use Rattle.graphs.specs.Rows.{Pairs}
 use Rattle.placements.specs.Order.{Answers}
@@ -103,8 +103,8 @@ good_made l (fit k) g sh v =
     record {
       ranged = g.ranged;
       fitted = (
-        λ u b le. ap (λ t. (t && ltb b l.bays) && k.suits u b) (le_ltb u l.units le),
-        λ u b le. ap (λ t. (ltb u l.units && t) && k.suits u b) (le_ltb b l.bays le) ∙ no_way (ltb u l.units) (k.suits u b),
+        λ u b le. ap (λ t. (t && ltb b l.bays) && k.suits u b) (le-ltb u l.units le),
+        λ u b le. ap (λ t. (ltb u l.units && t) && k.suits u b) (le-ltb b l.bays le) ∙ no_way (ltb u l.units) (k.suits u b),
       );
       last = g.last;
     }

@@ -1,6 +1,6 @@
 -- What an accepted call has kept to. Assumes nothing.
 use Rattle.std.proofs.Common.{◌≡◌, ℕ, ◌<◌, ◌≤◌, Bool, true, false, not, ◌||◌, eqb, ltb, sym, refl, inl, inr, arith}
-use Rattle.std.proofs.lemmas.Bool.{eqb_true, ltb-true, ltb-false, or_parts, lt_ltb, eq-eqb, or_from, not_from_true, cases_Bool}
+use Rattle.std.proofs.lemmas.Bool.{eqb-true, ltb-true, ltb-false, or_parts, lt-ltb, eq-eqb, or_from, not_from_true, cases_Bool}
 use Rattle.refusals.specs.declared.Reason.{Reason}
 use Rattle.refusals.specs.declared.Reason.TheVariants as R
 use Rattle.search.specs.Walk.{Setting}
@@ -18,10 +18,10 @@ not_false true e = refl
 not_false false e = sym e
 
 pub rooms_match : (l : Ledger) (s : Setting) → other_counts l s ≡ false → s.room.count ≡ l.bays
-rooms_match l s e = eqb_true _ _ (not_false _ (or_parts _ _ e).1)
+rooms_match l s e = eqb-true _ _ (not_false _ (or_parts _ _ e).1)
 
 pub arrangements_match : (l : Ledger) (s : Setting) → other_counts l s ≡ false → s.arrangement.count ≡ l.units
-arrangements_match l s e = eqb_true _ _ (not_false _ (or_parts _ _ e).0)
+arrangements_match l s e = eqb-true _ _ (not_false _ (or_parts _ _ e).0)
 
 pub counts_match : (l : Ledger) (s : Setting) → s.arrangement.count ≡ l.units → s.room.count ≡ l.bays → other_counts l s ≡ false
 counts_match l s ea er = or_from _ _ (not_from_true _ (eq-eqb _ _ ea)) (not_from_true _ (eq-eqb _ _ er))
@@ -31,7 +31,7 @@ counts_differ l s ne =
     elim (cases_Bool (other_counts l s)) [ inl t ↦ t | inr f ↦ absurd (ne (arrangements_match l s f) (rooms_match l s f)) ]
 
 pub inside_is : (l : Ledger) (u b : ℕ) → u < l.units → b < l.bays → outside l u b ≡ false
-inside_is l u b hu hb = or_from _ _ (not_from_true _ (lt_ltb u l.units hu)) (not_from_true _ (lt_ltb b l.bays hb))
+inside_is l u b hu hb = or_from _ _ (not_from_true _ (lt-ltb u l.units hu)) (not_from_true _ (lt-ltb b l.bays hb))
 
 -- a pair that the ledger has
 pub pair_in : (l : Ledger) (u b : ℕ) (v : Verdict) → unless R.OutOfRange (outside l u b) v ≡ accepted → (u < l.units) × (b < l.bays) × (v ≡ accepted)

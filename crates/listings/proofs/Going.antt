@@ -1,7 +1,7 @@
 -- The searches of a job's plan go through the list of all its placements. Assumes nothing.
 use Rattle.std.proofs.Common.{◌≡◌, ℕ, ◌+◌, ◌<◌, ◌≤◌, Bool, true, false, cond, not, ◌&&◌, ◌||◌, eqb, ltb, ◌⊎◌, List, [], ◌∷◌, ◌++◌, length, get_or, take, drop, is_ok, Some, None, Ok, Err, Decides, Option, Result, sym, refl, ap, ◌∙◌, subst, ap₂, inl, inr, ⊎_elim, arith, length-append, length-drop}
 use Rattle.std.proofs.lemmas.List.{take_at}
-use Rattle.std.proofs.lemmas.Bool.{and_from, and_parts, both_ways, eq-eqb, le_ltb, lt_ltb}
+use Rattle.std.proofs.lemmas.Bool.{and_from, and_parts, both_ways, eq-eqb, le-ltb, lt-ltb}
 use Rattle.std.proofs.lemmas.Bool.Decides.{Decides-and, Decides-like}
 use Rattle.refusals.specs.declared.Reason.TheVariants as R
 use Rattle.graphs.specs.Graph.{Graph}
@@ -106,7 +106,7 @@ module _ (j : JobForm) (law : JobLawful j) (s : Setting) (ea : s.arrangement ≡
             let parts = and_parts ((cards_of j).suits u (get_or w u 0)) (not (pairs j.struck.rows u (get_or w u 0))) (h.within u l) in
             let unit : u < length j.arrangement.rows = omega (arith, h.placed.whole) in
             and_from _ _
-            (and_from _ _ (and_from _ _ (lt_ltb u m (omega (arith, law.struck.units_same))) (lt_ltb (get_or w u 0) j.struck.columns (omega (arith, h.placed.on_bays u unit, law.struck.bays_same)))) parts.0)
+            (and_from _ _ (and_from _ _ (lt-ltb u m (omega (arith, law.struck.units_same))) (lt-ltb (get_or w u 0) j.struck.columns (omega (arith, h.placed.on_bays u unit, law.struck.bays_same)))) parts.0)
             parts.1;
         after = a;
       }
@@ -163,7 +163,7 @@ module _ (j : JobForm) (law : JobLawful j) (s : Setting) (ea : s.arrangement ≡
                   }
 
   enough : (out : List ℕ) → length out ≡ 24 → ltb (length out) m ≡ false
-  enough out e = le_ltb (length out) m (omega (arith, law.struck.plan.few_units))
+  enough out e = le-ltb (length out) m (omega (arith, law.struck.plan.few_units))
 
   module _ (out out' : List ℕ) (r : Result ℕ Refusal) (p q : Plan) (long : length out ≡ 24) where
     pub seek_at : view p ≡ fitted_ledger j None → Step p (turn (seek s out) (finding r) out') q → At j 0 (is_ok r) out' q

@@ -1,7 +1,7 @@
 -- The lines of a job's placements, written one by one. Assumes nothing.
 use Rattle.std.proofs.Common.{◌≡◌, ℕ, ◌+◌, ◌*◌, ◌<◌, ◌≤◌, Bool, true, false, cond, ◌&&◌, ltb, List, [], ◌∷◌, ◌++◌, length, get_or, take, codes, sym, refl, ap, ◌∙◌, subst, ap₂, inl, inr, arith}
 use Rattle.std.proofs.lemmas.List.{get_or_past, take_all}
-use Rattle.std.proofs.lemmas.Bool.{both_ways, cases_lt, lt_ltb, le_ltb}
+use Rattle.std.proofs.lemmas.Bool.{both_ways, cases_lt, lt-ltb, le-ltb}
 use Rattle.jobs.specs.Form.{JobForm, JobLawful}
 use Rattle.plans.specs.declared.plan.Plan.{Plan}
 use Rattle.listings.specs.Text.{line, lines, listing_text, Wrote}
@@ -78,10 +78,10 @@ module _ (j : JobForm) (law : JobLawful j) where
 
         full : more ≡ true → 20 ≤ k
         full t = elim (cases_lt k 20) [
-          | inl l ↦ absurd (both_ways true (sym (ap₂ ◌&&◌ t (lt_ltb k 20 l)) ∙ e) refl)
+          | inl l ↦ absurd (both_ways true (sym (ap₂ ◌&&◌ t (lt-ltb k 20 l)) ∙ e) refl)
           | inr h ↦ h
         ]
 
         by : (b : Bool) → more ≡ b → WroteListing j before out' r
-        by true t = ends (front (full t)) (t ∙ sym (lt_ltb 20 (length (all j)) (omega (arith, g.stands.listed t, full t))))
-        by false f = ends (whole (g.stands.past f)) (f ∙ sym (le_ltb 20 (length (all j)) (omega (arith, g.stands.past f, g.few))))
+        by true t = ends (front (full t)) (t ∙ sym (lt-ltb 20 (length (all j)) (omega (arith, g.stands.listed t, full t))))
+        by false f = ends (whole (g.stands.past f)) (f ∙ sym (le-ltb 20 (length (all j)) (omega (arith, g.stands.past f, g.few))))

@@ -1,7 +1,7 @@
 -- Texts written one behind the other, and how long lines are. Assumes nothing.
 use Rattle.std.proofs.Common.{◌≡◌, ℕ, zero, suc, ◌+◌, ◌-◌, ◌*◌, ◌<◌, ◌≤◌, Bool, true, false, cond, eqb, ltb, leb, List, [], ◌∷◌, ◌++◌, length, get_or, take, Some, None, decimal, Option, sym, refl, ap, ◌∙◌, subst, inl, inr, append_assoc, append-nil, arith, length-append}
 use Rattle.std.proofs.lemmas.Fmt.{length-decimal-le}
-use Rattle.std.proofs.lemmas.List.{get_or_take, get_or_past, length-take, length_take_le, take_more}
+use Rattle.std.proofs.lemmas.List.{get_or-take, get_or_past, length-take, length-take-le, take_more}
 use Rattle.std.proofs.lemmas.Bool.{cases_lt, cond-false, cond-true, eq-eqb, le-leb, ne_eqb}
 use Rattle.text.specs.Lay.{lay}
 use Rattle.text.specs.Put.{Put}
@@ -65,7 +65,7 @@ spaced_push (x ∷ w) b = ap (λ t. decimal x ++ t) (blank_led_push w b) ∙ sym
 -- one bay more of a line
 pub spaced_more : (w : List ℕ) (u : ℕ) → u < length w → spaced (take (u + 1) w) ≡ spaced (take u w) ++ numbered u (get_or w u 0)
 spaced_more w u h =
-    let long : length (take u w) ≡ u = length_take_le u w (omega arith) in
+    let long : length (take u w) ≡ u = length-take-le u w (omega arith) in
     ap spaced (take_more w u 0 h) ∙ spaced_push (take u w) (get_or w u 0) ∙ ap (λ i. spaced (take u w) ++ numbered i (get_or w u 0)) long
 
 pub two_digits : (b : ℕ) → b < 100 → length (decimal b) ≤ 2
@@ -86,12 +86,12 @@ spaced_short (b ∷ w) h = omega (arith, two_digits b (h 0), length-append (deci
 front_low : (w : List ℕ) (k : ℕ) → ((u : ℕ) → get_or w u 0 < 100) → (u : ℕ) → get_or (take k w) u 0 < 100
 front_low w k h u =
     elim (cases_lt u k) [
-      | inl l ↦ subst (λ (x : ℕ). x < 100) (sym (get_or_take k w u 0 l)) (h u)
+      | inl l ↦ subst (λ (x : ℕ). x < 100) (sym (get_or-take k w u 0 l)) (h u)
       | inr g ↦ subst (λ (x : ℕ). x < 100) (sym (get_or_past (take k w) u 0 (omega (arith, length-take k w)))) (omega arith)
     ]
 
 pub front_short : (w : List ℕ) (k : ℕ) → ((u : ℕ) → get_or w u 0 < 100) → k ≤ length w → length (spaced (take k w)) ≤ 3 * k
-front_short w k h l = omega (arith, spaced_short (take k w) (front_low w k h), length_take_le k w l)
+front_short w k h l = omega (arith, spaced_short (take k w) (front_low w k h), length-take-le k w l)
 
 pub line_short : (w : List ℕ) → ((u : ℕ) → get_or w u 0 < 100) → length w ≤ 24 → length (line w) ≤ 73
 line_short w h few = omega (arith, length-append (spaced w) (10 ∷ []), spaced_short w h)

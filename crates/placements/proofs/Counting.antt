@@ -1,7 +1,7 @@
 -- Counts under injective maps, and so the degrees under placements. Assumes nothing.
 use Rattle.std.proofs.Common.{◌≡◌, ℕ, zero, suc, ◌+◌, ◌-◌, ◌*◌, ◌/◌, ◌%◌, ◌^◌, ◌<◌, ◌≤◌, Bool, true, false, cond, not, ◌&&◌, eqb, ltb, List, get_or, sym, refl, ap, ◌∙◌, inl, inr, add-one, arith}
 use lib.Count.{ones, ones_step}
-use Rattle.std.proofs.lemmas.Bool.{eqb-false, eq-eqb, ne_eqb, cases_eq, cases_Bool, cases_lt, cond-true, cond-false, and_parts, and_from, and_left, and_right, not-true, not_from_false, not_from_true, lt_ltb, le_ltb, both_ways}
+use Rattle.std.proofs.lemmas.Bool.{eqb-false, eq-eqb, ne_eqb, cases_eq, cases_Bool, cases_lt, cond-true, cond-false, and_parts, and_from, and_left, and_right, not-true, not_from_false, not_from_true, lt-ltb, le-ltb, both_ways}
 use Rattle.graphs.specs.Graph.{Graph, Sound}
 use Rattle.graphs.specs.Rows.{bit, row_from, row_of}
 use Rattle.graphs.proofs.Bits.{bit_past}
@@ -204,6 +204,6 @@ ones_count n x h = ap ones (row_is n x (bit x) within) ∙ ones_row_of n (bit x)
   where
     within : (c : ℕ) → bit x c ≡ (ltb c n && bit x c)
     within c = elim (cases_lt c n) [
-      | inl l ↦ sym (ap (λ t. t && bit x c) (lt_ltb c n l))
-      | inr g ↦ bit_past x c n h g ∙ sym (and_left (ltb c n) (bit x c) (le_ltb c n g))
+      | inl l ↦ sym (ap (λ t. t && bit x c) (lt-ltb c n l))
+      | inr g ↦ bit_past x c n h g ∙ sym (and_left (ltb c n) (bit x c) (le-ltb c n g))
     ]

@@ -1,6 +1,6 @@
 -- The listing by brute force is all that passes, in dictionary order. Assumes nothing.
 use Rattle.std.proofs.Common.{◌≡◌, ℕ, zero, suc, ◌+◌, ◌-◌, ◌<◌, ◌≤◌, Bool, true, false, cond, ◌⊎◌, List, [], ◌∷◌, ◌++◌, map, length, get_or, Decides, sym, refl, ap, ◌∙◌, subst, inl, inr, arith}
-use Rattle.std.proofs.lemmas.List.{length-append, length-map, get_or_append_left, get_or_append_right, get_or-map, nil_from_length}
+use Rattle.std.proofs.lemmas.List.{length-append, length-map, get_or_append_left, get_or-append_right, get_or-map, nil_from_length}
 use Rattle.std.proofs.lemmas.Bool.{cases_eq, cases_lt, both_ways}
 use Rattle.graphs.specs.Graph.{Graph}
 use Rattle.placements.specs.Placement.{Placement}
@@ -19,7 +19,7 @@ member_right : (xs ys : List (List ℕ)) (w : List ℕ) → Member ys w → Memb
 member_right xs ys w (i, l, e) = (
   length xs + i,
   omega (arith, length-append xs ys),
-  get_or_append_right xs ys (length xs) (length xs + i) [] refl (omega arith) ∙ ap (λ k. get_or ys k []) (let z : length xs + i - length xs ≡ i = omega arith in z) ∙ e,
+  get_or-append_right xs ys (length xs) (length xs + i) [] refl (omega arith) ∙ ap (λ k. get_or ys k []) (let z : length xs + i - length xs ≡ i = omega arith in z) ∙ e,
 )
 
 -- what P and Q hold of together, where all of P stand before all of Q
@@ -36,7 +36,7 @@ lists_append P Q R xs ys h k apart left right split = record {
     in_left i l = sym (get_or_append_left xs ys [] i l)
 
     in_right : (i : ℕ) → length xs ≤ i → get_or ys (i - length xs) [] ≡ get_or (xs ++ ys) i []
-    in_right i l = sym (get_or_append_right xs ys (length xs) i [] refl l)
+    in_right i l = sym (get_or-append_right xs ys (length xs) i [] refl l)
 
     sound : (i : ℕ) → i < length (xs ++ ys) → R (get_or (xs ++ ys) i [])
     sound i l = elim (cases_lt i (length xs)) [

@@ -1,6 +1,6 @@
 -- Placements are monomorphisms, and strict ones isomorphisms onto induced subgraphs. Assumes nothing.
 use Rattle.std.proofs.Common.{◌≡◌, ℕ, zero, suc, ◌<◌, Bool, true, false, not, ◌&&◌, ◌||◌, eqb, List, length, get_or, sym, refl, ap, ◌∙◌, subst, ap₂, inl, inr, arith}
-use Rattle.std.proofs.lemmas.Bool.{cases_eq, cases_Bool, and_parts, and_from, both_ways, eq-eqb, ne_eqb, eqb_true, eqb-false, not-true, not_from_false, or_cases, or_left, or_right}
+use Rattle.std.proofs.lemmas.Bool.{cases_eq, cases_Bool, and_parts, and_from, both_ways, eq-eqb, ne_eqb, eqb-true, eqb-false, not-true, not_from_false, or_cases, or_left, or_right}
 use Rattle.graphs.specs.Graph.{Graph, Sound, Symmetric}
 use Rattle.placements.specs.Agreement.{half, agrees}
 use Rattle.placements.specs.Placement.{Placement}
@@ -104,7 +104,7 @@ unfolding image
 image_in zero f b h = absurd (both_ways false refl h)
 image_in (suc k) f b h =
     elim (or_cases (eqb (f k) b) (image k f b) h) [
-      | inl e ↦ (k, omega arith, eqb_true (f k) b e)
+      | inl e ↦ (k, omega arith, eqb-true (f k) b e)
       | inr i ↦ let z = image_in k f b i in (z.0, omega (arith, z.1), z.2)
     ]
 

@@ -1,7 +1,7 @@
 -- Fits by a rule book. Assumes nothing.
 use Rattle.std.proofs.Common.{◌≡◌, ℕ, ◌<◌, ◌≤◌, Bool, true, false, ◌&&◌, ltb, List, [], length, get_or, sym, refl, ap, ◌∙◌, ap₂, ⊎_elim, arith}
 use mathlib.Core.Path.{fun_ext}
-use Rattle.std.proofs.lemmas.Bool.{cases_lt, cond-false, eq-eqb, lt_ltb, le_ltb, or_from, not_from_true}
+use Rattle.std.proofs.lemmas.Bool.{cases_lt, cond-false, eq-eqb, lt-ltb, le-ltb, or_from, not_from_true}
 use Rattle.graphs.specs.Rows.{Pairs, pairs}
 use Rattle.graphs.proofs.PairSets.{low_by, blank_by, none_past, none_beyond}
 use Rattle.tables.specs.Shape.{Inside, Blank}
@@ -17,9 +17,9 @@ both_below : (m n u b : ℕ) (t : Bool) → (m ≤ u → t ≡ false) → (n ≤
 both_below m n u b t hu hb =
     ⊎_elim
     (λ lu.
-    ⊎_elim (λ lb. sym (ap₂ (λ x y. (x && y) && t) (lt_ltb u m lu) (lt_ltb b n lb)))
-    (λ gb. hb gb ∙ sym (ap₂ (λ x y. (x && ltb b n) && y) (lt_ltb u m lu) (hb gb) ∙ last (ltb b n))) (cases_lt b n))
-    (λ gu. hu gu ∙ sym (ap (λ x. (x && ltb b n) && t) (le_ltb u m gu))) (cases_lt u m)
+    ⊎_elim (λ lb. sym (ap₂ (λ x y. (x && y) && t) (lt-ltb u m lu) (lt-ltb b n lb)))
+    (λ gb. hb gb ∙ sym (ap₂ (λ x y. (x && ltb b n) && y) (lt-ltb u m lu) (hb gb) ∙ last (ltb b n))) (cases_lt b n))
+    (λ gu. hu gu ∙ sym (ap (λ x. (x && ltb b n) && t) (le-ltb u m gu))) (cases_lt u m)
   where
     last : (s : Bool) → (s && false) ≡ false
     last true = refl

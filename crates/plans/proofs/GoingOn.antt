@@ -1,7 +1,7 @@
 -- Every run goes on with every call. Assumes nothing.
 use Rattle.std.proofs.Common.{◌≡◌, ℕ, zero, suc, ◌+◌, ◌-◌, ◌^◌, ◌<◌, ◌≤◌, Bool, true, false, not, ◌⊎◌, List, [], ◌∷◌, ◌++◌, length, get_or, take, Some, None, Option, sym, refl, ap, ◌∙◌, subst, ap₂, inl, inr, ⊎_elim, arith, take_all, pow_pos}
 use mathlib.Core.Bool.{false≢true}
-use Rattle.std.proofs.lemmas.List.{get_or_past, get_or_take, length_take_le}
+use Rattle.std.proofs.lemmas.List.{get_or_past, get_or-take, length-take-le}
 use Rattle.std.proofs.lemmas.Bool.{cases_lt}
 use Rattle.refusals.specs.declared.Reason.TheVariants as R
 use Rattle.graphs.specs.Rows.{Pairs, pairs, rows_of}
@@ -32,7 +32,7 @@ short (suc m) (x ∷ w) = let r = short m w in omega arith
 
 low_take : (m n : ℕ) (w : List ℕ) → 1 ≤ n → Low n w → (u : ℕ) → get_or (take m w) u 0 < n
 low_take m n w pos low u =
-    ⊎_elim (λ lt. let P : ℕ → Type 0 = λ x. x < n in subst P (sym (get_or_take m w u 0 lt)) (low u))
+    ⊎_elim (λ lt. let P : ℕ → Type 0 = λ x. x < n in subst P (sym (get_or-take m w u 0 lt)) (low u))
     (λ ge. let P : ℕ → Type 0 = λ x. x < n in subst P (sym (get_or_past (take m w) u 0 (let s = short m w in omega arith))) pos) (cases_lt u m)
 
 good_view : (p : Plan) → Good (view p)

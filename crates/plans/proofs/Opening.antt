@@ -1,9 +1,9 @@
 -- Plans opened and saved. Assumes nothing.
 use Rattle.std.proofs.Common.{◌≡◌, ℕ, ◌+◌, ◌^◌, ◌<◌, ◌≤◌, Bool, true, false, cond, ltb, List, [], length, get_or, take, set, None, Ok, Err, Result, sym, refl, ap, ◌∙◌, subst, ap₂, ⊎_elim, arith}
 use mathlib.Core.Path.{fun_ext}
-use Rattle.std.proofs.lemmas.List.{get_or_past, length_take_le, get_or_take, get_or-set_same, get_or-set_other, length-set}
+use Rattle.std.proofs.lemmas.List.{get_or_past, length-take-le, get_or-take, get_or-set_same, get_or-set_other, length-set}
 use Rattle.std.proofs.lemmas.Bool.Decides.{nat_tests}
-use Rattle.std.proofs.lemmas.Bool.{cases_lt, cases_eq, cases_Bool, cond-true, cond-false, ltb-false, lt_ltb, le_ltb}
+use Rattle.std.proofs.lemmas.Bool.{cases_lt, cases_eq, cases_Bool, cond-true, cond-false, ltb-false, lt-ltb, le-ltb}
 use Rattle.refusals.specs.declared.Reason.TheVariants.{NoRoom}
 use Rattle.graphs.specs.Rows.{bit, pairs, rows_of}
 use Rattle.graphs.proofs.PairSets.{take_rows}
@@ -31,8 +31,8 @@ Fronts rows front = (u : ℕ) → get_or front u 0 ≡ cond (ltb u 24) (get_or r
 
 pub front_at : (rows front : List ℕ) → length rows ≤ 24 → Fronts rows front → (u : ℕ) → get_or front u 0 ≡ get_or rows u 0
 front_at rows front few e u =
-    ⊎_elim (λ lt. e u ∙ ap (λ t. cond t (get_or rows u 0) 0) (lt_ltb u 24 lt))
-    (λ ge. e u ∙ ap (λ t. cond t (get_or rows u 0) 0) (le_ltb u 24 ge) ∙ sym (get_or_past rows u 0 (omega arith))) (cases_lt u 24)
+    ⊎_elim (λ lt. e u ∙ ap (λ t. cond t (get_or rows u 0) 0) (lt-ltb u 24 lt))
+    (λ ge. e u ∙ ap (λ t. cond t (get_or rows u 0) 0) (le-ltb u 24 ge) ∙ sym (get_or_past rows u 0 (omega arith))) (cases_lt u 24)
 
 pub open_inside : (f : Form) (front : List ℕ) → PlanLawful f → Fronts f.rows front → Inside f.columns front
 open_inside f front l e u = let P : ℕ → Type 0 = λ x. x < 2 ^ f.columns in subst P (sym (front_at f.rows front l.few_units e u)) (l.table.inside u)
@@ -56,7 +56,7 @@ pub saved_table : (p : Plan) (t : Table) (part : List ℕ) → p.units ≤ lengt
 saved_table p t part long cut e =
     let rows : part ≡ rows_of p.units p.bays (pairs p.struck) = cut ∙ take_rows p.units p.bays p.struck long p.inside in
     let low : Inside p.bays part = λ u. let P : ℕ → Type 0 = λ x. x < 2 ^ p.bays in subst P (sym (ap (λ x. get_or x u 0) cut)) (front u) in
-    let len : length part ≡ p.units = ap length cut ∙ length_take_le p.units p.struck long in
+    let len : length part ≡ p.units = ap length cut ∙ length-take-le p.units p.struck long in
     ap plan_bytes
     (e ∙ form_kept p.bays part (record { few_rows = (let f = p.few_units in let k = len in omega arith); few_columns = p.few_bays; inside = low })
     ∙ ap (λ x. record { columns = p.bays; rows = x }) rows)
@@ -64,8 +64,8 @@ saved_table p t part long cut e =
     front : (u : ℕ) → get_or (take p.units p.struck) u 0 < 2 ^ p.bays
     front u =
         let P : ℕ → Type 0 = λ x. x < 2 ^ p.bays in
-        ⊎_elim (λ lt. subst P (sym (get_or_take p.units p.struck u 0 lt)) (p.inside u))
-        (λ ge. subst P (sym (get_or_past (take p.units p.struck) u 0 (omega (arith, length_take_le p.units p.struck long))) ∙ refl) (low_zero (p.inside u))) (cases_lt u p.units)
+        ⊎_elim (λ lt. subst P (sym (get_or-take p.units p.struck u 0 lt)) (p.inside u))
+        (λ ge. subst P (sym (get_or_past (take p.units p.struck) u 0 (omega (arith, length-take-le p.units p.struck long))) ∙ refl) (low_zero (p.inside u))) (cases_lt u p.units)
       where
         low_zero : {x n : ℕ} → x < n → 0 < n
         low_zero h = omega arith
@@ -115,7 +115,7 @@ fronting_set rows front i lt f = record {
       ⊎_elim
       (λ e.
       let P : ℕ → Type 0 = λ k. get_or (set front i (get_or rows i 0)) k 0 ≡ cond (ltb k (i + 1)) (get_or rows k 0) 0 in
-      subst P (sym e) (get_or-set_same front i (get_or rows i 0) 0 l ∙ sym (ap (λ t. cond t (get_or rows i 0) 0) (lt_ltb i (i + 1) (omega arith)))))
+      subst P (sym e) (get_or-set_same front i (get_or rows i 0) 0 l ∙ sym (ap (λ t. cond t (get_or rows i 0) 0) (lt-ltb i (i + 1) (omega arith)))))
       (λ ne. get_or-set_other front i u (get_or rows i 0) 0 ne ∙ f.at u ∙ ap (λ t. cond t (get_or rows u 0) 0) (below_more u i ne)) (cases_eq u i);
 }
 

@@ -1,7 +1,7 @@
 -- The law over runs. Assumes nothing.
 use Rattle.std.proofs.Common.{◌≡◌, ℕ, ◌+◌, ◌-◌, ◌*◌, ◌<◌, ◌≤◌, Bool, true, false, cond, not, ◌⊎◌, List, [], ◌∷◌, length, Some, None, Option, sym, refl, ap, ◌∙◌, subst, inl, inr, ⊎_elim, arith}
 use mathlib.Core.Bool.{false≢true}
-use Rattle.std.proofs.lemmas.Bool.{cases_lt, lt_ltb, le_ltb, cond-true, cond-false}
+use Rattle.std.proofs.lemmas.Bool.{cases_lt, lt-ltb, le-ltb, cond-true, cond-false}
 use Rattle.refusals.specs.declared.Reason.TheVariants as R
 use Rattle.placements.specs.Order.{IsFirst, Answers}
 use Rattle.placements.proofs.Orders.{answers_unique}
@@ -112,9 +112,9 @@ saves out a b x =
     let l = was x in
     let c = save out in
     ⊎_elim
-    (λ lt. let r = declined_at l c a b (rule R.NoRoom) (right_at c a b x) (cond-true _ _ _ (lt_ltb (length out) (length (form_of l)) lt)) in
+    (λ lt. let r = declined_at l c a b (rule R.NoRoom) (right_at c a b x) (cond-true _ _ _ (lt-ltb (length out) (length (form_of l)) lt)) in
     inl (lt, r.0, r.1, unchanged c a b x (ap idle r.0)))
-    (λ ge. let r = accepted_at l c a b (right_at c a b x) (cond-false _ _ _ (le_ltb (length out) (length (form_of l)) ge)) in
+    (λ ge. let r = accepted_at l c a b (right_at c a b x) (cond-false _ _ _ (le-ltb (length out) (length (form_of l)) ge)) in
     inr (ge, r.0, r.1, unchanged c a b x (ap idle r.0)))
     (cases_lt (length out) (length (form_of l)))
 

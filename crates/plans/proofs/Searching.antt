@@ -3,9 +3,9 @@ use Rattle.std.proofs.Common.{◌≡◌, ℕ, zero, suc, ◌+◌, ◌-◌, ◌*�
 use mathlib.Core.Path.{fun_ext}
 use mathlib.Core.Bool.{false≢true}
 use lib.Bits.{bit_and}
-use Rattle.std.proofs.lemmas.List.{get_or-set_same, get_or-set_other, get_or_past, get_or_take, length_take_le}
+use Rattle.std.proofs.lemmas.List.{get_or-set_same, get_or-set_other, get_or_past, get_or-take, length-take-le}
 use Rattle.std.proofs.lemmas.Nat.{one_shl}
-use Rattle.std.proofs.lemmas.Bool.{cases_eq, cases_lt, cond-true, cond-false, eq-eqb, ne_eqb, le_ltb, le-leb}
+use Rattle.std.proofs.lemmas.Bool.{cases_eq, cases_lt, cond-true, cond-false, eq-eqb, ne_eqb, le-ltb, le-leb}
 use Rattle.graphs.specs.Rows.{bit, Pairs, pairs, rows_of}
 use Rattle.graphs.proofs.Bits.{bit_of_and, bit_one}
 use Rattle.graphs.proofs.PairSets.{take_rows}
@@ -72,15 +72,15 @@ stands :
     (p : Plan) (rows part : List ℕ) (r : Pairs) → part ≡ take p.units rows → p.units ≤ length rows → pairs rows ≡ r
     → Inside p.bays rows → Blank p.units rows → Stands p part r
 stands p rows part r e lt is w z = record {
-  long = ap length e ∙ length_take_le p.units rows lt;
+  long = ap length e ∙ length-take-le p.units rows lt;
   rows = e ∙ take_rows p.units p.bays rows lt w ∙ ap (rows_of p.units p.bays) is;
   pairs_are = ap pairs e ∙ fun_ext (λ u. fun_ext (λ b. ap (λ x. bit x b) (front u))) ∙ is;
   low = λ u. let P : ℕ → Type 0 = λ x. x < 2 ^ p.bays in subst P (sym (ap (λ x. get_or x u 0) e ∙ front u)) (w u);
 }
   where
     front : (u : ℕ) → get_or (take p.units rows) u 0 ≡ get_or rows u 0
-    front u = ⊎_elim (λ lu. get_or_take p.units rows u 0 lu)
-        (λ ge. get_or_past (take p.units rows) u 0 (omega (arith, length_take_le p.units rows lt)) ∙ sym (z u ge)) (cases_lt u p.units)
+    front u = ⊎_elim (λ lu. get_or-take p.units rows u 0 lu)
+        (λ ge. get_or_past (take p.units rows) u 0 (omega (arith, length-take-le p.units rows lt)) ∙ sym (z u ge)) (cases_lt u p.units)
 
 open_is : (p : Plan) → p.fit ≡ true → open_pairs (view p) ≡ (λ v c. pairs p.fitted v c && not (pairs p.struck v c))
 open_is p ef = ap (λ t. open_in (fitting t p.fitted) (pairs p.struck)) ef
@@ -168,7 +168,7 @@ find_low :
 find_low p s r o ea er x first z u =
     let P : ℕ → Type 0 = λ k. k < p.bays in
     ⊎_elim
-    (λ lt. subst P (get_or_take p.units x u 0 lt) (let b = first.holds.placed.on_bays u (let e = ea in omega arith) in let e = er in omega arith))
+    (λ lt. subst P (get_or-take p.units x u 0 lt) (let b = first.holds.placed.on_bays u (let e = ea in omega arith) in let e = er in omega arith))
     (λ ge. subst P (sym (z u ge)) p.some_bays) (cases_lt u p.units)
 
 module _ (p : Plan) (s : Setting) (part : List ℕ) (r : Pairs) (o : Option (List ℕ)) (y : Ready p s part r) (ok : Bool) (is : ok ≡ true) (answers : Answers (Looked s part o) (walk s o part).found) where
@@ -256,7 +256,7 @@ pub seek_looks :
     (p : Plan) (s : Setting) (out : List ℕ) → p.fit ≡ true → s.arrangement.count ≡ p.units → s.room.count ≡ p.bays → p.units ≤ length out
     → Looks p s None out (seek s out)
 seek_looks p s out ef ea er long = record {
-  accepts = cond-false _ _ _ (fitted_ok p ef) ∙ cond-false _ _ _ (counts_match (view p) s ea er) ∙ cond-false _ _ _ (le_ltb (length out) p.units long);
+  accepts = cond-false _ _ _ (fitted_ok p ef) ∙ cond-false _ _ _ (counts_match (view p) s ea er) ∙ cond-false _ _ _ (le-ltb (length out) p.units long);
   makes = refl;
   answers = λ a b f. f;
 }
@@ -265,7 +265,7 @@ pub further_looks :
     (p : Plan) (s : Setting) (out : List ℕ) → p.fit ≡ true → s.arrangement.count ≡ p.units → s.room.count ≡ p.bays
     → no_last (shortened p.units p.last) ≡ false → p.units ≤ length out → Looks p s (shortened p.units p.last) out (further s out)
 further_looks p s out ef ea er el long = record {
-  accepts = cond-false _ _ _ (fitted_ok p ef) ∙ cond-false _ _ _ (counts_match (view p) s ea er) ∙ cond-false _ _ _ el ∙ cond-false _ _ _ (le_ltb (length out) p.units long);
+  accepts = cond-false _ _ _ (fitted_ok p ef) ∙ cond-false _ _ _ (counts_match (view p) s ea er) ∙ cond-false _ _ _ el ∙ cond-false _ _ _ (le-ltb (length out) p.units long);
   makes = refl;
   answers = λ a b f. f;
 }

@@ -3,7 +3,7 @@ use Rattle.std.proofs.Common.{◌≡◌, ℕ, ◌≤◌, true, false, ◌⊎◌,
 use mathlib.Core.Path.{fun_ext}
 use mathlib.Core.Bool.{false≢true}
 use Rattle.std.proofs.lemmas.List.{get_or-replicate, length-replicate, get_or_past}
-use Rattle.std.proofs.lemmas.Bool.{cases_lt, le_ltb, or_from, cond-false}
+use Rattle.std.proofs.lemmas.Bool.{cases_lt, le-ltb, or_from, cond-false}
 use Rattle.graphs.specs.Rows.{bit, Pairs, pairs}
 use Rattle.graphs.proofs.Bits.{bit_none}
 use Rattle.tables.specs.Shape.{Inside, Blank}
@@ -71,7 +71,7 @@ pub begin_step :
     (p q : Plan) (m n : ℕ) → 1 ≤ m → m ≤ 24 → 1 ≤ n → n ≤ 64
     → q.units ≡ m → q.bays ≡ n → q.struck ≡ blank_rows → q.fit ≡ false → q.last ≡ None → Step p (turn (begin m n) done []) q
 begin_step p q m n m1 m2 n1 n2 eu eb es ef el =
-    done_step p q (begin m n) (cond-false _ _ _ (or_from _ _ (le_ltb m 1 m1) (or_from _ _ (le_ltb 24 m m2) (or_from _ _ (le_ltb n 1 n1) (le_ltb 64 n n2)))))
+    done_step p q (begin m n) (cond-false _ _ _ (or_from _ _ (le-ltb m 1 m1) (or_from _ _ (le-ltb 24 m m2) (or_from _ _ (le-ltb n 1 n1) (le-ltb 64 n n2)))))
     (view_begun q m n eu eb es ef el) (refl, refl)
 
 pub new_fresh : (q : Plan) → q.units ≡ 1 → q.bays ≡ 1 → q.struck ≡ blank_rows → q.fit ≡ false → q.last ≡ None → Fresh q

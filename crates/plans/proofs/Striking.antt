@@ -7,7 +7,7 @@ use lib.Count.{ones, ones-le, ones_step}
 use Rattle.std.proofs.lemmas.List.Sums.{sum_by-cons}
 use Rattle.std.proofs.lemmas.List.{get_or-set_same, get_or-set_other}
 use Rattle.std.proofs.lemmas.Nat.{one_shl}
-use Rattle.std.proofs.lemmas.Bool.{cases_eq, cond-false, eq-eqb, ne_eqb, not_from_true, cases_Bool, eqb_true, eqb-false}
+use Rattle.std.proofs.lemmas.Bool.{cases_eq, cond-false, eq-eqb, ne_eqb, not_from_true, cases_Bool, eqb-true, eqb-false}
 use Rattle.graphs.specs.Rows.{bit, Pairs, pairs}
 use Rattle.graphs.proofs.Bits.{bit_of_or, bit_one, bit_none, bit_suc, bit_zero}
 use Rattle.graphs.proofs.PairSets.{bit_without}
@@ -101,7 +101,7 @@ struck_few p = few p.units p.bays p.struck p.inside p.blank
 
 low_digit : (x : ℕ) → x % 2 ≡ cond (bit x 0) 1 0
 low_digit x =
-    ⊎_elim (λ e. eqb_true (x % 2) 1 (sym (bit_zero x) ∙ e) ∙ sym (ap (λ t. cond t 1 0) e))
+    ⊎_elim (λ e. eqb-true (x % 2) 1 (sym (bit_zero x) ∙ e) ∙ sym (ap (λ t. cond t 1 0) e))
     (λ e. (let n = eqb-false (x % 2) 1 (sym (bit_zero x) ∙ e) in let z : x % 2 ≡ 0 = omega arith in z) ∙ sym (ap (λ t. cond t 1 0) e)) (cases_Bool (bit x 0))
 
 ones_count : (n x : ℕ) → x < 2 ^ n → ones x ≡ count n (bit x)

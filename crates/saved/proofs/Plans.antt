@@ -1,6 +1,6 @@
 -- Saved plans are an exact part. Assumes nothing.
 use Rattle.std.proofs.Common.{◌≡◌, ℕ, zero, suc, ◌+◌, ◌*◌, ◌≤◌, Bool, true, ◌&&◌, eqb, leb, List, [], ◌∷◌, ◌++◌, length, get_or, take, Ok, Err, Result, sym, refl, ap, ◌∙◌, subst, append-nil, arith}
-use Rattle.std.proofs.lemmas.Bool.{and_from, and_parts, eqb_true, le-leb, leb-true}
+use Rattle.std.proofs.lemmas.Bool.{and_from, and_parts, eqb-true, le-leb, leb-true}
 use Rattle.tables.specs.Bytes.{Bytes}
 use Rattle.tables.specs.Form.{Form, Lawful}
 use Rattle.tables.specs.Parts.{and_then, Anything, Nothing, Exact}
@@ -28,7 +28,7 @@ struck_exact = checked_exact sized P.Sizes (inside_exact P.Table table_exact)
 
 one_byte : (bs : List ℕ) → FormLawful bs → 2 ∷ [] ≡ bs
 one_byte [] l = absurd (omega (arith, l.0.0))
-one_byte (b ∷ []) l = ap (λ x. x ∷ []) (sym (eqb_true b 2 l.1))
+one_byte (b ∷ []) l = ap (λ x. x ∷ []) (sym (eqb-true b 2 l.1))
 one_byte (b ∷ c ∷ bs) l = absurd (omega (arith, l.0.0))
 
 two_is_byte : Bytes (2 ∷ [])

@@ -1,7 +1,7 @@
 -- Reading a saved plan, step by step. Assumes nothing.
 use Rattle.std.proofs.Common.{◌≡◌, ℕ, ◌+◌, ◌<◌, ◌≤◌, Bool, true, false, cond, eqb, ltb, List, [], ◌∷◌, length, get_or, take, drop, Ok, Err, Result, sym, refl, ap, ◌∙◌, arith, length-drop}
-use Rattle.std.proofs.lemmas.List.{get_or_take, get_or-drop}
-use Rattle.std.proofs.lemmas.Bool.{cond-false, cond-true, eq-eqb, ne_eqb, le_ltb, lt_ltb}
+use Rattle.std.proofs.lemmas.List.{get_or-take, get_or-drop}
+use Rattle.std.proofs.lemmas.Bool.{cond-false, cond-true, eq-eqb, ne_eqb, le-ltb, lt-ltb}
 use Rattle.tables.specs.declared.fault.TableFault.{TableFault}
 use Rattle.tables.specs.Form.{Form}
 use Rattle.tables.specs.Parts.{and_then}
@@ -34,16 +34,16 @@ module _ (input : List ℕ) where
     pub plan_ended : length input ≤ at → Err (P.Ended (length input)) ≡ read_plan input at
     plan_ended h =
         ap taken (sym (ap (λ r. and_then {Y = List ℕ × ℕ} r (λ p. cond (eqb (get_or p.0 0 0) 2) (Ok p) (Err (P.Form at))))
-        (cond-true (ltb (length (drop at input)) 1) _ _ (lt_ltb (length (drop at input)) 1 (omega (arith, length-drop at input))))))
+        (cond-true (ltb (length (drop at input)) 1) _ _ (lt-ltb (length (drop at input)) 1 (omega (arith, length-drop at input))))))
 
     module _ (lt : at < length input) where
       byte_is : get_or (take 1 (drop at input)) 0 0 ≡ get_or input at 0
-      byte_is = get_or_take 1 (drop at input) 0 0 (omega arith) ∙ get_or-drop at input 0 0 ∙ ap (λ n. get_or input n 0) (let e : at + 0 ≡ at = omega arith in e)
+      byte_is = get_or-take 1 (drop at input) 0 0 (omega arith) ∙ get_or-drop at input 0 0 ∙ ap (λ n. get_or input n 0) (let e : at + 0 ≡ at = omega arith in e)
 
       form_is : form_part input at ≡ cond (eqb (get_or input at 0) 2) (Ok (take 1 (drop at input), at + 1)) (Err (P.Form at))
       form_is =
           ap (λ r. and_then {Y = List ℕ × ℕ} r (λ p. cond (eqb (get_or p.0 0 0) 2) (Ok p) (Err (P.Form at))))
-          (cond-false (ltb (length (drop at input)) 1) _ _ (le_ltb (length (drop at input)) 1 (omega (arith, length-drop at input))))
+          (cond-false (ltb (length (drop at input)) 1) _ _ (le-ltb (length (drop at input)) 1 (omega (arith, length-drop at input))))
           ∙ ap (λ b. cond (eqb b 2) (Ok (take 1 (drop at input), at + 1)) (Err (P.Form at))) byte_is
 
       pub plan_form : (get_or input at 0 ≡ 2 → ⊥) → Err (P.Form at) ≡ read_plan input at
@@ -71,7 +71,7 @@ module _ (input : List ℕ) where
           sized_here s = ap (behind (take 1 (drop at input))) (sym (cond-true (sized f) _ _ s)) ∙ here (Ok (f, next)) h
 
           pub plan_left : sized f ≡ true → next < length input → Err (P.Left next) ≡ read_plan input at
-          plan_left s l = ap told (sym (cond-true (ltb next (length input)) _ _ (lt_ltb next (length input) l))) ∙ sized_here s
+          plan_left s l = ap told (sym (cond-true (ltb next (length input)) _ _ (lt-ltb next (length input) l))) ∙ sized_here s
 
           pub plan_done : sized f ≡ true → length input ≤ next → Ok f ≡ read_plan input at
-          plan_done s l = ap told (sym (cond-false (ltb next (length input)) _ _ (le_ltb next (length input) l))) ∙ sized_here s
+          plan_done s l = ap told (sym (cond-false (ltb next (length input)) _ _ (le-ltb next (length input) l))) ∙ sized_here s

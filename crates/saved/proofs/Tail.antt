@@ -1,5 +1,5 @@
 -- A form saved behind the form byte. Assumes nothing.
-use Rattle.std.proofs.Common.{◌≡◌, ℕ, zero, suc, ◌+◌, ◌-◌, ◌<◌, ◌≤◌, Bool, true, false, cond, ltb, ◌⊎◌, List, [], ◌∷◌, ◌++◌, length, take, drop, set, Ok, Err, Result, sym, refl, ap, ◌∙◌, inl, inr, ⊎_elim, append-nil, arith, le_ltb, lt_ltb}
+use Rattle.std.proofs.Common.{◌≡◌, ℕ, zero, suc, ◌+◌, ◌-◌, ◌<◌, ◌≤◌, Bool, true, false, cond, ltb, ◌⊎◌, List, [], ◌∷◌, ◌++◌, length, take, drop, set, Ok, Err, Result, sym, refl, ap, ◌∙◌, inl, inr, ⊎_elim, append-nil, arith, le-ltb, lt-ltb}
 use borrow.Rule.Slice.PartMut.{put_mid}
 use Rattle.std.proofs.lemmas.List.{drop_all, take_all}
 use Rattle.std.proofs.lemmas.Bool.{cases_lt}
@@ -37,7 +37,7 @@ ok_same m n e = cc
 
 pub tail_none : (form out : List ℕ) → length out < 1 → Saved (2 ∷ form) out out (Err Short)
 tail_none form out h =
-    let s : ltb (length out) (length (2 ∷ form)) ≡ true = lt_ltb (length out) (length (2 ∷ form)) (omega arith) in
+    let s : ltb (length out) (length (2 ∷ form)) ≡ true = lt-ltb (length out) (length (2 ∷ form)) (omega arith) in
     record { answer = rw s; buffer = rw s }
 
 pub tail_err : (form out part : List ℕ) (e : SaveFault) → 1 ≤ length out → Saved form (take (length out - 1) (drop 1 out)) part (Err e) → Saved (2 ∷ form) out (put_mid 1 (length out - 1) out part) (Err e)
@@ -47,10 +47,10 @@ tail_err form (o ∷ os) part e h g =
     let b = rw (front_tail o os) at g.buffer in
     ⊎_elim
     (λ short.
-    let s : ltb (length os) (length form) ≡ true = lt_ltb (length os) (length form) short in
-    let s' : ltb (length (o ∷ os)) (length (2 ∷ form)) ≡ true = lt_ltb (length (o ∷ os)) (length (2 ∷ form)) (omega arith) in
+    let s : ltb (length os) (length form) ≡ true = lt-ltb (length os) (length form) short in
+    let s' : ltb (length (o ∷ os)) (length (2 ∷ form)) ≡ true = lt-ltb (length (o ∷ os)) (length (2 ∷ form)) (omega arith) in
     record { answer = rw s' (rw s at a); buffer = rw s' (put_tail o os part ∙ ap (λ t. o ∷ t) (rw s at b)) })
-    (λ room. err_not_ok e (length form) (rw (le_ltb (length os) (length form) room) at a))
+    (λ room. err_not_ok e (length form) (rw (le-ltb (length os) (length form) room) at a))
     (cases_lt (length os) (length form))
 
 pub tail_ok : (form out part : List ℕ) (n : ℕ) → 1 ≤ length out → Saved form (take (length out - 1) (drop 1 out)) part (Ok n) → Saved (2 ∷ form) out (set (put_mid 1 (length out - 1) out part) 0 2) (Ok (n + 1))
@@ -59,10 +59,10 @@ tail_ok form (o ∷ os) part n h g =
     let a = rw (front_tail o os) at g.answer in
     let b = rw (front_tail o os) at g.buffer in
     ⊎_elim
-    (λ short. ok_not_err Short n (rw (lt_ltb (length os) (length form) short) at a))
+    (λ short. ok_not_err Short n (rw (lt-ltb (length os) (length form) short) at a))
     (λ room.
-    let s : ltb (length os) (length form) ≡ false = le_ltb (length os) (length form) room in
-    let s' : ltb (length (o ∷ os)) (length (2 ∷ form)) ≡ false = le_ltb (length (o ∷ os)) (length (2 ∷ form)) (omega arith) in
+    let s : ltb (length os) (length form) ≡ false = le-ltb (length os) (length form) room in
+    let s' : ltb (length (o ∷ os)) (length (2 ∷ form)) ≡ false = le-ltb (length (o ∷ os)) (length (2 ∷ form)) (omega arith) in
     let same : n ≡ length form = ok_same n (length form) (rw s at a) in
     let more : n + 1 ≡ length (2 ∷ form) = omega (arith, same) in
     record {

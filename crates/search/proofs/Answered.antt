@@ -2,7 +2,7 @@
 use Rattle.std.proofs.Common.{◌≡◌, ℕ, zero, suc, ◌+◌, ◌-◌, ◌<◌, ◌≤◌, min, Bool, true, false, List, length, get_or, replicate, Some, None, Ok, Err, Option, Result, sym, refl, ap, ◌∙◌, subst, arith}
 use mathlib.Core.Path.{fun_ext}
 use Rattle.std.proofs.lemmas.List.{take_at}
-use Rattle.std.proofs.lemmas.Bool.{lt_ltb, le_ltb, cond-true, cond-false}
+use Rattle.std.proofs.lemmas.Bool.{lt-ltb, le-ltb, cond-true, cond-false}
 use Rattle.placements.specs.Order.{IsFirst, Answers}
 use Rattle.filters.specs.Filter.{Lawful, empty_count}
 use Rattle.search.specs.declared.Find.{Find}
@@ -70,11 +70,11 @@ module _ (w : Setting) (last : List ℕ) (tied : Bool) (rows part : List ℕ) (i
   Answer = answer_with (walk_from w last tied rows).found (walk_from w last tied rows).tries
 
   pub answers_empty : 0 < empty → ◌≡◌ {A = Result Find SearchError} (Err (NoPlacement 0)) (answer_with (walk_from w last tied rows).found (walk_from w last tied rows).tries)
-  answers_empty l = sym (ap (λ (o : Outcome). answer_with o.found o.tries) (walk_empty w last tied rows part is (lt_ltb 0 (empty_count part) (omega arith))))
+  answers_empty l = sym (ap (λ (o : Outcome). answer_with o.found o.tries) (walk_empty w last tied rows part is (lt-ltb 0 (empty_count part) (omega arith))))
 
   module _ (lawful : Lawful w.filter) (long : length rows ≡ w.arrangement.count) (full : empty ≤ 0) (t : ℕ) (tries : t ≡ min (0 + (settle w last (length part - 0) tied 0 part).tries) 4294967295) where
     same : settle w last (length part - 0) tied 0 part ≡ walk_from w last tied rows
-    same = sym (walk_full w last tied rows part is lawful long (le_ltb 0 (empty_count part) (omega arith)))
+    same = sym (walk_full w last tied rows part is lawful long (le-ltb 0 (empty_count part) (omega arith)))
 
     tries_are : t ≡ told (walk_from w last tied rows).tries
     tries_are = tries ∙ ap (λ (k : ℕ). min k 4294967295) (let z : 0 + (settle w last (length part - 0) tied 0 part).tries ≡ (settle w last (length part - 0) tied 0 part).tries = omega arith in z) ∙ ap (λ (o : Outcome). told o.tries) same

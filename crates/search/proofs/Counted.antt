@@ -1,6 +1,6 @@
 -- The tries of a walk are the beginnings that it reaches. Assumes nothing.
 use Rattle.std.proofs.Common.{◌≡◌, ℕ, zero, suc, ◌+◌, ◌<◌, ◌≤◌, Bool, true, false, cond, not, ◌&&◌, ◌||◌, eqb, List, [], ◌∷◌, length, get_or, drop, Some, None, Option, sym, refl, ap, ◌∙◌, subst, ap₂, inl, inr, arith, drop-cons}
-use Rattle.std.proofs.lemmas.Bool.{eq-eqb, ne_eqb, lt_ltb, le_ltb, cases_lt}
+use Rattle.std.proofs.lemmas.Bool.{eq-eqb, ne_eqb, lt-ltb, le-ltb, cases_lt}
 use Rattle.std.proofs.lemmas.List.{get_or_past, drop_all}
 use Rattle.std.proofs.lemmas.Bool.Decides.{nat_tests}
 use Rattle.graphs.specs.Graph.{Sound}
@@ -90,13 +90,13 @@ module _ (n : ℕ) (offer : ℕ → Bool) (here : ℕ → Outcome) (key : List �
 -- ---- not past a list
 
 past_same : (b : ℕ) (r q : List ℕ) → not_past (b ∷ r) (b ∷ q) ≡ not_past r q
-past_same b r q = ap₂ (λ (s t : Bool). s || (t && not_past r q)) (le_ltb b b (omega arith)) (eq-eqb b b refl)
+past_same b r q = ap₂ (λ (s t : Bool). s || (t && not_past r q)) (le-ltb b b (omega arith)) (eq-eqb b b refl)
 
 past_less : (b c : ℕ) (r q : List ℕ) → b < c → not_past (b ∷ r) (c ∷ q) ≡ true
-past_less b c r q l = ap (λ (s : Bool). s || (eqb b c && not_past r q)) (lt_ltb b c l)
+past_less b c r q l = ap (λ (s : Bool). s || (eqb b c && not_past r q)) (lt-ltb b c l)
 
 past_more : (b c : ℕ) (r q : List ℕ) → c < b → not_past (b ∷ r) (c ∷ q) ≡ false
-past_more b c r q l = ap₂ (λ (s t : Bool). s || (t && not_past r q)) (le_ltb b c (omega arith)) (ne_eqb b c (λ z. omega arith))
+past_more b c r q l = ap₂ (λ (s t : Bool). s || (t && not_past r q)) (le-ltb b c (omega arith)) (ne_eqb b c (λ z. omega arith))
 
 -- what was found, from unit u on
 abbrev tail_of : ℕ → Option (List ℕ) → Option (List ℕ)

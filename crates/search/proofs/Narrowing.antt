@@ -5,7 +5,7 @@ use Rattle.std.proofs.lemmas.Nat.{one_shl}
 use Rattle.std.proofs.lemmas.List.{length-set, get_or-set_same, get_or-set_other}
 use Rattle.std.proofs.lemmas.List.FromFn.{length-map-range_with_len, get_or-map-range_with_len}
 use Rattle.std.proofs.lemmas.List.Edits.{fill_by_more}
-use Rattle.std.proofs.lemmas.Bool.{eq-eqb, ne_eqb, eqb_true, lt_ltb, le_ltb, cond-true, cond-false, cases_lt, cases_eq, cases_order, both_ways, and_parts, or_parts, not_false}
+use Rattle.std.proofs.lemmas.Bool.{eq-eqb, ne_eqb, eqb-true, lt-ltb, le-ltb, cond-true, cond-false, cases_lt, cases_eq, cases_order, both_ways, and_parts, or_parts, not_false}
 use Rattle.graphs.specs.Rows.{bit, row_of}
 use Rattle.graphs.specs.Graph.{Graph}
 use Rattle.graphs.proofs.Bits.{bit_of_and, bit_of_or, bit_bit, bit_bit_only}
@@ -23,13 +23,13 @@ module _ (a r : Graph) (s : Bool) (u b : ℕ) (rows : List ℕ) where
   narrow_at i l = get_or-map-range_with_len (narrowed_row a r s u b rows) 0 (length rows) i i 0 l (omega arith)
 
   pub narrow_below : (i : ℕ) → i < u → narrowed_row a r s u b rows i ≡ get_or rows i 0
-  narrow_below i l = cond-true (ltb i u) _ _ (lt_ltb i u l)
+  narrow_below i l = cond-true (ltb i u) _ _ (lt-ltb i u l)
 
   pub narrow_here : narrowed_row a r s u b rows u ≡ 2 ^ b
-  narrow_here = cond-false (ltb u u) _ _ (le_ltb u u (omega arith)) ∙ cond-true (eqb u u) _ _ (eq-eqb u u refl)
+  narrow_here = cond-false (ltb u u) _ _ (le-ltb u u (omega arith)) ∙ cond-true (eqb u u) _ _ (eq-eqb u u refl)
 
   pub narrow_above : (i : ℕ) → u < i → narrowed_row a r s u b rows i ≡ bit_and (get_or rows i 0) (row_of r.count (λ c. agrees a r s u b i c))
-  narrow_above i l = cond-false (ltb i u) _ _ (le_ltb i u (omega arith)) ∙ cond-false (eqb i u) _ _ (ne_eqb i u (λ x. omega arith))
+  narrow_above i l = cond-false (ltb i u) _ _ (le-ltb i u (omega arith)) ∙ cond-false (eqb i u) _ _ (ne_eqb i u (λ x. omega arith))
 
   -- a later row keeps what it held of the bays that agree
   pub above_holds : (i c : ℕ) → u < i → bit (narrowed_row a r s u b rows i) c ≡ true → (bit (get_or rows i 0) c ≡ true) × (agrees a r s u b i c ≡ true)
@@ -89,7 +89,7 @@ narrows_more f rows v next changed kept marked lv h is m =
       todo = λ k lk. get_or-set_other next v k kept 0 (λ z. omega arith) ∙ h.todo k (omega arith);
       same = λ k n. elim (cases_eq k v) [
         | inl z ↦ ap (λ (j : ℕ). get_or (set next v kept) j 0) z ∙ get_or-set_same next v kept 0 l
-            ∙ eqb_true kept (get_or rows v 0) (not_false _ ((m k n).1 z)) ∙ ap (λ (j : ℕ). get_or rows j 0) (sym z)
+            ∙ eqb-true kept (get_or rows v 0) (not_false _ ((m k n).1 z)) ∙ ap (λ (j : ℕ). get_or rows j 0) (sym z)
         | inr ne ↦ get_or-set_other next v k kept 0 ne ∙ h.same k (m k n).0
       ];
     }
@@ -104,8 +104,8 @@ pub row_bit : (a : Graph) (p : ℕ → Bool) → ((v : ℕ) → a.count ≤ v �
 row_bit a p out x v e =
     ap (λ (y : ℕ). bit y v) e ∙ bit_row_of a.count p v
     ∙ elim (cases_lt v a.count) [
-      | inl l ↦ ap (λ (t : Bool). t && p v) (lt_ltb v a.count l)
-      | inr l ↦ ap (λ (t : Bool). t && p v) (le_ltb v a.count l) ∙ sym (out v l)
+      | inl l ↦ ap (λ (t : Bool). t && p v) (lt-ltb v a.count l)
+      | inr l ↦ ap (λ (t : Bool). t && p v) (le-ltb v a.count l) ∙ sym (out v l)
     ]
 
 pub row_kept : (a r : Graph) (s : Bool) (u b : ℕ) (rows : List ℕ) (v x : ℕ) (out back : Bool) → u < v → out ≡ a.joined u v → back ≡ a.joined v u

@@ -3,7 +3,7 @@ use Rattle.std.proofs.Common.{◌≡◌, ℕ, ◌+◌, ◌-◌, ◌*◌, ◌%◌
 use lib.Bits.{bit_and}
 use mir.Val.{bool_byte}
 use Rattle.std.proofs.lemmas.Nat.{one_shl, pow_below}
-use Rattle.std.proofs.lemmas.Bool.{cases_Bool, lt_ltb, and_left}
+use Rattle.std.proofs.lemmas.Bool.{cases_Bool, lt-ltb, and_left}
 use Rattle.std.proofs.lemmas.Bool.Decides.{nat_tests}
 use Rattle.graphs.specs.Rows.{bit}
 use Rattle.graphs.proofs.Bits.{bit_of_and, bit_not, bit_none, bit_below}
@@ -40,9 +40,9 @@ module _ (row bound : ℕ) (final tied : Bool) (fits : row < 2 ^ 64) (is : tied 
       bit_of_and row (18446744073709551615 - low) b
       ∙ offer_is b (bit (18446744073709551615 - low) b)
       (λ t. let lb : b < 64 = bit_below row 64 b fits t in
-      bit_not 64 low b (omega arith) ∙ ap (λ (y : Bool). y && not (bit low b)) (lt_ltb b 64 lb) ∙ ap not lows)
+      bit_not 64 low b (omega arith) ∙ ap (λ (y : Bool). y && not (bit low b)) (lt-ltb b 64 lb) ∙ ap not lows)
 
   pub offers_none : 64 ≤ bound + bool_byte final → (b : ℕ) → bit 0 b ≡ offered row tied bound final b
   offers_none l b =
       bit_none b ∙ sym (and_false (bit row b))
-      ∙ offer_is b false (λ t. let lb : b < 64 = bit_below row 64 b fits t in sym (ap not (lt_ltb b from (omega arith))))
+      ∙ offer_is b false (λ t. let lb : b < 64 = bit_below row 64 b fits t in sym (ap not (lt-ltb b from (omega arith))))

@@ -3,7 +3,7 @@ use Rattle.std.proofs.Common.{◌≡◌, ℕ, zero, suc, ◌+◌, ◌^◌, ◌<�
 use lib.Count.{count_trailing_zeros}
 use lib.ListN.{length-map}
 use Rattle.std.proofs.lemmas.List.{ext_get_or, get_or-map}
-use Rattle.std.proofs.lemmas.Bool.{eqb_true, eqb-false, eq-eqb, ltb-true, ltb-false, cases_lt, cases_eq, cases_order, cases_Bool, both_ways, and_parts, and_cases, or_cases, or_left, or_right, and_from, not-true, not_false, lt_ltb}
+use Rattle.std.proofs.lemmas.Bool.{eqb-true, eqb-false, eq-eqb, ltb-true, ltb-false, cases_lt, cases_eq, cases_order, cases_Bool, both_ways, and_parts, and_cases, or_cases, or_left, or_right, and_from, not-true, not_false, lt-ltb}
 use Rattle.graphs.specs.Rows.{bit, row_of}
 use Rattle.graphs.specs.Graph.{Sound}
 use Rattle.graphs.proofs.Bits.{bit_of_and, bit_bit, bit_bit_only, bit_none, bit_lowest_among}
@@ -32,7 +32,7 @@ pub one_empty : (rows : List ℕ) → 0 < empty_count rows → (i : ℕ) × (i <
 one_empty [] e = absurd (omega arith)
 one_empty (r ∷ rows) e =
     elim (cases_Bool (eqb r 0)) [
-      | inl z ↦ (0, omega arith, eqb_true r 0 z)
+      | inl z ↦ (0, omega arith, eqb-true r 0 z)
       | inr z ↦ let k : ◌≡◌ {A = ℕ} (cond (eqb r 0) 1 0) 0 = ap (λ (t : Bool). cond t 1 0) z in
           let s = one_empty rows (omega arith) in (suc s.0, omega (arith, s.1), s.2)
     ]
@@ -138,7 +138,7 @@ module _ (w : Setting) (last : List ℕ) (lawful : Lawful w.filter) (gu : Sound 
                     | inl below ↦ ap (λ (r : ℕ). bit r (get_or q i 0)) (narrow_below w.arrangement w.room w.strict u b rows i below) ∙ h.within i l
                     | inr above ↦ ap (λ (r : ℕ). bit r (get_or q i 0)) (narrow_above w.arrangement w.room w.strict u b rows i above) ∙ bit_of_and (get_or rows i 0) (mask i) (get_or q i 0)
                         ∙ and_from (bit (get_or rows i 0) (get_or q i 0)) (bit (mask i) (get_or q i 0)) (h.within i l)
-                        (bit_row_of w.room.count (λ x. agrees w.arrangement w.room w.strict u b i x) (get_or q i 0) ∙ and_from _ _ (lt_ltb (get_or q i 0) w.room.count (h.placed.on_bays i l))
+                        (bit_row_of w.room.count (λ x. agrees w.arrangement w.room w.strict u b i x) (get_or q i 0) ∙ and_from _ _ (lt-ltb (get_or q i 0) w.room.count (h.placed.on_bays i l))
                         (subst (λ (y : ℕ). agrees w.arrangement w.room w.strict u y i (get_or q i 0) ≡ true) at (h.placed.agree u i (omega arith) l (λ z. omega arith))))
                   ]
                 ]);
@@ -189,7 +189,7 @@ module _ (w : Setting) (last : List ℕ) (lawful : Lawful w.filter) (gu : Sound 
               | inl below ↦ st.level (and_parts tied (eqb b (get_or last u 0)) t).0 i c below (next_back i c hc)
               | inr here ↦ (let z : i ≡ u = omega arith in
                   next_here c (subst (λ (x : ℕ). bit (get_or next x 0) c ≡ true) z hc)
-                  ∙ eqb_true b (get_or last u 0) (and_parts tied (eqb b (get_or last u 0)) t).1
+                  ∙ eqb-true b (get_or last u 0) (and_parts tied (eqb b (get_or last u 0)) t).1
                   ∙ ap (λ (x : ℕ). get_or last x 0) (sym z))
             ];
             apart = λ t. elim (cases_eq later 0) [ inl z ↦ absurd (notlast t z) | inr ne ↦ omega arith ];
@@ -209,14 +209,14 @@ module _ (w : Setting) (last : List ℕ) (lawful : Lawful w.filter) (gu : Sound 
                 | inl x ↦ (let low : l < get_or q u 0 = subst (λ (y : ℕ). get_or last y 0 < get_or q y 0) x B.lower in
                     elim (or_cases (ltb b l) (eqb b l && eqb later 0) t.1) [
                       | inl y ↦ (let f = ltb-true b l y in omega arith)
-                      | inr y ↦ (let f = eqb_true b l (and_parts (eqb b l) (eqb later 0) y).0 in omega arith)
+                      | inr y ↦ (let f = eqb-true b l (and_parts (eqb b l) (eqb later 0) y).0 in omega arith)
                     ])
                 | inr o ↦ elim o [
                   | inl below ↦ (let s = same_below B.unit below in let f = B.lower in omega arith)
                   | inr above ↦ (let s : l ≡ get_or q u 0 = B.same u above in
                       elim (or_cases (ltb b l) (eqb b l && eqb later 0) t.1) [
                         | inl y ↦ (let f = ltb-true b l y in omega arith)
-                        | inr y ↦ (let f = eqb_true later 0 (and_parts (eqb b l) (eqb later 0) y).1 in let g = B.below in omega arith)
+                        | inr y ↦ (let f = eqb-true later 0 (and_parts (eqb b l) (eqb later 0) y).1 in let g = B.below in omega arith)
                       ])
                 ]
               ])
@@ -230,7 +230,7 @@ module _ (w : Setting) (last : List ℕ) (lawful : Lawful w.filter) (gu : Sound 
     offer_open o = not-true _ (and_parts (bit (get_or rows u 0) b) _ o).1
 
     offer_fair : offered (get_or rows u 0) tied (get_or last u 0) (eqb later 0) b ≡ true → tied ≡ true → b < get_or last u 0 → ⊥
-    offer_fair o t l = both_ways _ (offer_open o) (and_from tied _ t (or_left _ _ (lt_ltb b (get_or last u 0) l)))
+    offer_fair o t l = both_ways _ (offer_open o) (and_from tied _ t (or_left _ _ (lt-ltb b (get_or last u 0) l)))
 
     offer_inner : offered (get_or rows u 0) tied (get_or last u 0) (eqb later 0) b ≡ true → tied' ≡ true → later ≡ 0 → ⊥
     offer_inner o t z =

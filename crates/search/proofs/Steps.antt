@@ -3,7 +3,7 @@ use Rattle.std.proofs.Common.{◌≡◌, ℕ, zero, suc, ◌+◌, ◌-◌, ◌^�
 use lib.Bits.{bit_and, and_le_r}
 use lib.Count.{count_trailing_zeros}
 use borrow.Rule.Slice.PartMut.{post_of, same_len_mid}
-use Rattle.std.proofs.lemmas.List.{length_take_le}
+use Rattle.std.proofs.lemmas.List.{length-take-le}
 use Rattle.std.proofs.lemmas.Bool.{both_ways, le-leb, lt-leb, leb-true, eq-eqb, ne_eqb, cases_eq, cases_lt, cases_Bool, and_parts, and_right}
 use Rattle.std.proofs.lemmas.Bool.Decides.{nat_tests}
 use Rattle.graphs.specs.Rows.{bit}
@@ -235,4 +235,4 @@ none_of (Some p) e = absurd (let y : ◌≡◌ {A = ℕ} 0 1 = cc in omega arith
 
 -- a write to the front of the array leaves its length
 pub front_long : (xs ys : List ℕ) (k : ℕ) → k ≡ length ys → k ≤ length xs → length (ys ++ post_of 0 (k - 0) xs) ≡ length xs
-front_long xs ys k e l = same_len_mid 0 (k - 0) xs ys (sym e ∙ (let z : k ≡ k - 0 = omega arith in z) ∙ sym (length_take_le (k - 0) xs (omega arith)))
+front_long xs ys k e l = same_len_mid 0 (k - 0) xs ys (sym e ∙ (let z : k ≡ k - 0 = omega arith in z) ∙ sym (length-take-le (k - 0) xs (omega arith)))

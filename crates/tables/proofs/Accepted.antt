@@ -1,5 +1,5 @@
 -- What reading accepts is what writing writes. Assumes nothing.
-use Rattle.std.proofs.Common.{◌≡◌, ℕ, zero, suc, ◌+◌, ◌*◌, ◌/◌, ◌%◌, ◌^◌, ◌<◌, ◌≤◌, false, eqb, ltb, List, [], ◌∷◌, ◌++◌, length, get_or, take, drop, IfOk, Some, None, Ok, Err, Option, Result, sym, refl, ap, ◌∙◌, append_assoc, pow-suc, add-one, arith, length-append, ltb-false, ne_eqb, eqb_true}
+use Rattle.std.proofs.Common.{◌≡◌, ℕ, zero, suc, ◌+◌, ◌*◌, ◌/◌, ◌%◌, ◌^◌, ◌<◌, ◌≤◌, false, eqb, ltb, List, [], ◌∷◌, ◌++◌, length, get_or, take, drop, IfOk, Some, None, Ok, Err, Option, Result, sym, refl, ap, ◌∙◌, append_assoc, pow-suc, add-one, arith, length-append, ltb-false, ne_eqb, eqb-true}
 use borrow.Author.Tests.{eqb-false}
 use Rattle.std.proofs.lemmas.Nat.{div_below, pow_pos, shr_below}
 use Rattle.std.proofs.lemmas.List.{take-append-drop}
@@ -61,7 +61,7 @@ row_accepted end at columns bs =
     (λ long. cond_both (eqb w 0) _ _ (λ r. IfOk r (Row columns bs)) (λ _. tt)
     (λ some. cond_both {A = Option ℕ} (eqb (w / 2 ^ columns) 0) _ _
     (λ o. IfOk (elim o [ Some b ↦ ill RowBit (at + b / 8) | None ↦ Ok w ]) (Row columns bs))
-    (λ narrow. record { long = ltb-false (length bs) 8 long; value = refl; some = eqb-false w 0 some; narrow = below_none w columns (eqb_true (w / 2 ^ columns) 0 narrow) })
+    (λ narrow. record { long = ltb-false (length bs) 8 long; value = refl; some = eqb-false w 0 some; narrow = below_none w columns (eqb-true (w / 2 ^ columns) 0 narrow) })
     (λ _. tt)))
 
 -- ---- the rows
@@ -127,7 +127,7 @@ rows_accepted (suc n) map columns end at bs h B =
     cond_both (eqb (map % 2) 0) _ _ (Good (suc n) map columns at bs)
     (λ z. behind_made 0 (read_rows n (map / 2) columns end at bs) (Rows n (map / 2) columns at bs) (Rows (suc n) map columns at bs)
     (rows_accepted n (map / 2) columns end at bs half B)
-    (λ rs next g. rows_skip map columns at bs n rs next (eqb_true (map % 2) 0 z) g))
+    (λ rs next g. rows_skip map columns at bs n rs next (eqb-true (map % 2) 0 z) g))
     (λ o. and_then_made (read_row end at columns bs) _ (Row columns bs) (λ p. Rows (suc n) map columns at bs p.0 p.1) (row_accepted end at columns bs)
     (λ row w. behind_made row (read_rows n (map / 2) columns end (at + 8) (drop 8 bs)) (Rows n (map / 2) columns (at + 8) (drop 8 bs)) (Rows (suc n) map columns at bs)
     (rows_accepted n (map / 2) columns end (at + 8) (drop 8 bs) half (bytes_drop 8 bs B))
@@ -164,7 +164,7 @@ map_accepted count columns end at bs B =
     (λ o. IfOk (elim o [ Some b ↦ ill MapBit (at + b / 8) | None ↦ held columns (read_rows count w columns end (at + 8) (drop 8 bs)) ]) (λ p. Tail count columns at bs p.0 p.1))
     (λ z.
     and_then_made (read_rows count w columns end (at + 8) (drop 8 bs)) _ (λ p. Rows count w columns (at + 8) (drop 8 bs) p.0 p.1) (λ p. Tail count columns at bs p.0 p.1)
-    (rows_accepted count w columns end (at + 8) (drop 8 bs) (below_none w count (eqb_true (w / 2 ^ count) 0 z)) (bytes_drop 8 bs B))
+    (rows_accepted count w columns end (at + 8) (drop 8 bs) (below_none w count (eqb-true (w / 2 ^ count) 0 z)) (bytes_drop 8 bs B))
     (λ p g. tail_of count columns at bs p.0 p.1 (ltb-false (length bs) 8 long) B g))
     (λ _. tt))
 

@@ -1,5 +1,5 @@
 -- Reading what was written gives it back. Assumes nothing.
-use Rattle.std.proofs.Common.{◌≡◌, ℕ, suc, ◌+◌, ◌*◌, ◌/◌, ◌%◌, ◌^◌, ◌<◌, ◌≤◌, Bool, true, false, cond, eqb, ltb, List, [], ◌∷◌, ◌++◌, length, get_or, take, drop, Ok, Err, ap, ◌∙◌, ⊎_elim, append_assoc, pow-suc, arith, length-append, pow_mono, le_ltb, ne_eqb}
+use Rattle.std.proofs.Common.{◌≡◌, ℕ, suc, ◌+◌, ◌*◌, ◌/◌, ◌%◌, ◌^◌, ◌<◌, ◌≤◌, Bool, true, false, cond, eqb, ltb, List, [], ◌∷◌, ◌++◌, length, get_or, take, drop, Ok, Err, ap, ◌∙◌, ⊎_elim, append_assoc, pow-suc, arith, length-append, pow_mono, le-ltb, ne_eqb}
 use native.Mathlib.Nat.{div-eq_of_lt}
 use Rattle.std.proofs.lemmas.List.{take_at, drop_at}
 use Rattle.std.proofs.lemmas.Bool.{cases_eq}
@@ -28,7 +28,7 @@ row_back : (end at columns r : ℕ) (rest : List ℕ) → columns ≤ 64 → r <
 row_back end at columns r rest few h nz =
     let top : 2 ^ columns ≤ 2 ^ 64 = pow_mono few in
     let small : r < 2 ^ 64 = omega arith in
-    rw (le_ltb (length (bytes_of 8 r ++ rest)) 8 (long r small rest))
+    rw (le-ltb (length (bytes_of 8 r ++ rest)) 8 (long r small rest))
     (ap (λ w. checked_row w at columns) (word r small rest) ∙ checked_back r at columns h nz)
 
 module _ (n columns end at : ℕ) (bs : List ℕ) where
@@ -87,7 +87,7 @@ map_back columns end at rows rest few_rows few_columns narrow =
     let within = map_small rows in
     let small : map_of rows < 2 ^ 64 = omega arith in
     let g = rows_back columns end few_columns rest (at + 8) rows narrow in
-    rw (le_ltb (length (bytes_of 8 (map_of rows) ++ (rows_bytes rows ++ rest))) 8 (long (map_of rows) small (rows_bytes rows ++ rest)), word (map_of rows) small (rows_bytes rows ++ rest), after (map_of rows) small (rows_bytes rows ++ rest))
+    rw (le-ltb (length (bytes_of 8 (map_of rows) ++ (rows_bytes rows ++ rest))) 8 (long (map_of rows) small (rows_bytes rows ++ rest)), word (map_of rows) small (rows_bytes rows ++ rest), after (map_of rows) small (rows_bytes rows ++ rest))
     (map_checked (length rows) columns (map_of rows) end at (rows_bytes rows ++ rest) within (rows, at + 8 + length (rows_bytes rows)) g)
 
 pub length_form : (f : Form) → length (table_bytes f) ≡ 10 + length (rows_bytes f.rows)
@@ -97,10 +97,10 @@ pub table_back : (f : Form) (end at : ℕ) (rest : List ℕ) → Lawful f → ta
 unfolding table_from
 table_back f end at rest s =
     let body : List ℕ = (bytes_of 8 (map_of f.rows) ++ rows_bytes f.rows) ++ rest in
-    let one : ltb (length (length f.rows ∷ (f.columns ∷ body))) 1 ≡ false = le_ltb _ _ (omega arith) in
-    let two : ltb (length (f.columns ∷ body)) 1 ≡ false = le_ltb _ _ (omega arith) in
-    let few : ltb 64 (length f.rows) ≡ false = le_ltb 64 (length f.rows) s.few_rows in
-    let few' : ltb 64 f.columns ≡ false = le_ltb 64 f.columns s.few_columns in
+    let one : ltb (length (length f.rows ∷ (f.columns ∷ body))) 1 ≡ false = le-ltb _ _ (omega arith) in
+    let two : ltb (length (f.columns ∷ body)) 1 ≡ false = le-ltb _ _ (omega arith) in
+    let few : ltb 64 (length f.rows) ≡ false = le-ltb 64 (length f.rows) s.few_rows in
+    let few' : ltb 64 f.columns ≡ false = le-ltb 64 f.columns s.few_columns in
     let place : at + length (table_bytes f) ≡ at + 2 + 8 + length (rows_bytes f.rows) = omega (arith, length_form f) in
     rw (one, few, two, few', append_assoc (bytes_of 8 (map_of f.rows)) (rows_bytes f.rows) rest, place)
     (map_back f.columns end (at + 2) f.rows rest s.few_rows s.few_columns s.inside)

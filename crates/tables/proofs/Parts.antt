@@ -1,7 +1,7 @@
 -- Parts that are put together of exact parts are exact. Assumes nothing.
 use Rattle.std.proofs.Common.{◌≡◌, ℕ, ◌+◌, ◌<◌, ◌≤◌, Bool, true, false, cond, ltb, List, [], ◌∷◌, ◌++◌, length, get_or, take, drop, Ok, Err, Result, sym, refl, ap, ◌∙◌, subst, inl, inr, append_assoc, append-nil, arith, length-append, length-drop}
-use Rattle.std.proofs.lemmas.List.{append_cancel_left, drop_all, drop_at, drop-drop, get_or-drop, get_or_take, get_or_past, length_take_le, length-take, nil_from_length, take-append-drop, take_at}
-use Rattle.std.proofs.lemmas.Bool.{cases_Bool, cases_lt, cond-false, cond-true, le_ltb, lt_ltb, ltb-false}
+use Rattle.std.proofs.lemmas.List.{append_cancel_left, drop_all, drop_at, drop-drop, get_or-drop, get_or-take, get_or_past, length-take-le, length-take, nil_from_length, take-append-drop, take_at}
+use Rattle.std.proofs.lemmas.Bool.{cases_Bool, cases_lt, cond-false, cond-true, le-ltb, lt-ltb, ltb-false}
 use Rattle.tables.specs.Bytes.{Bytes}
 use Rattle.tables.specs.Parts.{and_then, Reader, some_bytes, after, both, checked, alone, inside, turned, Anything, Nothing, Holds, Exact}
 
@@ -155,7 +155,7 @@ module _ {X E : Type 0} {Lawful : X → Type 0} {read : Reader X E} {write : X �
       back : (x : X) → Lawful x → (input : List ℕ) (at : ℕ) (rest : List ℕ) → Nothing rest → drop at input ≡ write x ++ rest → alone read left input at ≡ Ok (x, at + length (write x))
       back x l input at rest f e =
           ap (λ r. and_then r (λ p. cond (ltb p.1 (length input)) (Err (left p.1)) (Ok p))) (g.back x l input at rest tt e)
-          ∙ cond-false (ltb (at + length (write x)) (length input)) _ _ (le_ltb (at + length (write x)) (length input) (end input at (write x) rest f e))
+          ∙ cond-false (ltb (at + length (write x)) (length input)) _ _ (le-ltb (at + length (write x)) (length input) (end input at (write x) rest f e))
 
       only : (input : List ℕ) (at : ℕ) → Bytes input → (x : X) (next : ℕ) → alone read left input at ≡ Ok (x, next) → Holds Lawful Nothing write input at x next
       only input at B x next h =
@@ -222,7 +222,7 @@ bytes_drop n bs B i = rw get_or-drop (B (n + i))
 bytes_take : (n : ℕ) (bs : List ℕ) → Bytes bs → Bytes (take n bs)
 bytes_take n bs B i =
     elim (cases_lt i n) [
-      | inl l ↦ subst (λ (x : ℕ). x < 256) (sym (get_or_take n bs i 0 l)) (B i)
+      | inl l ↦ subst (λ (x : ℕ). x < 256) (sym (get_or-take n bs i 0 l)) (B i)
       | inr g ↦ subst (λ (x : ℕ). x < 256) (sym (get_or_past (take n bs) i 0 (omega (arith, length-take n bs)))) (omega arith)
     ]
 
@@ -231,7 +231,7 @@ some_bytes_exact {E} n ended = exact_of (λ bs. bs) back only
   where
     back : (bs : List ℕ) → (length bs ≡ n) × Bytes bs → (input : List ℕ) (at : ℕ) (rest : List ℕ) → Anything rest → drop at input ≡ bs ++ rest → some_bytes n ended input at ≡ Ok (bs, at + length bs)
     back bs l input at rest f e =
-        cond-false (ltb (length (drop at input)) n) _ _ (le_ltb (length (drop at input)) n (omega (arith, ap length e, length-append bs rest, l.0)))
+        cond-false (ltb (length (drop at input)) n) _ _ (le-ltb (length (drop at input)) n (omega (arith, ap length e, length-append bs rest, l.0)))
         ∙ ap (λ (t : List ℕ). Ok (t, at + n)) (ap (take n) e ∙ take_at bs rest n l.0)
         ∙ ap (λ (k : ℕ). Ok (bs, at + k)) (sym l.0)
 
@@ -241,7 +241,7 @@ some_bytes_exact {E} n ended = exact_of (λ bs. bs) back only
         let room : n ≤ length (drop at input) = ltb-false (length (drop at input)) n c.0 in
         let is : take n (drop at input) ≡ bs = ap (λ p. p.0) c.1 in
         let end : at + n ≡ next = ap (λ p. p.1) c.1 in
-        let long : length bs ≡ n = ap length (sym is) ∙ length_take_le n (drop at input) room in
+        let long : length bs ≡ n = ap length (sym is) ∙ length-take-le n (drop at input) room in
         record {
           lawful = (long, subst Bytes is (bytes_take n (drop at input) (bytes_drop at input B)));
           place = omega arith;

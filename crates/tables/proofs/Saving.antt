@@ -1,5 +1,5 @@
 -- The saved form of a table in a buffer. Assumes nothing.
-use Rattle.std.proofs.Common.{◌≡◌, ℕ, ◌+◌, ◌<◌, ◌≤◌, true, false, ltb, List, [], ◌++◌, length, take, drop, set, IfOk, Ok, Err, Result, sym, refl, ap, ◌∙◌, inl, inr, append-nil, arith, le_ltb, lt_ltb}
+use Rattle.std.proofs.Common.{◌≡◌, ℕ, ◌+◌, ◌<◌, ◌≤◌, true, false, ltb, List, [], ◌++◌, length, take, drop, set, IfOk, Ok, Err, Result, sym, refl, ap, ◌∙◌, inl, inr, append-nil, arith, le-ltb, lt-ltb}
 use Rattle.std.proofs.lemmas.List.{take_at}
 use Rattle.std.proofs.lemmas.Bool.{cases_lt}
 use Rattle.text.specs.Lay.{lay}
@@ -17,14 +17,14 @@ use Rattle.tables.proofs.Putting.{head_lay}
 
 pub saved_short : (f : Form) (out : List ℕ) → length out < 10 + length (rows_bytes f.rows) → Saved (table_bytes f) out out (Err Short)
 saved_short f out h =
-    let s : ltb (length out) (length (table_bytes f)) ≡ true = lt_ltb (length out) (length (table_bytes f)) (omega (arith, length_form f)) in
+    let s : ltb (length out) (length (table_bytes f)) ≡ true = lt-ltb (length out) (length (table_bytes f)) (omega (arith, length_form f)) in
     record { answer = rw s; buffer = rw s }
 
 pub saved_whole : (f : Form) (out out₁ out₂ : List ℕ) (r : ℕ) → 10 + length (rows_bytes f.rows) ≤ length out
     → out₁ ≡ lay (set (set out 0 (length f.rows)) 1 f.columns) 2 (bytes_of 8 (map_of f.rows)) → out₂ ≡ lay out₁ 10 (rows_bytes f.rows) → r ≡ 10 + length (rows_bytes f.rows)
     → Saved (table_bytes f) out out₂ (Ok r)
 saved_whole f out out₁ out₂ r h e₁ e₂ n =
-    let s : ltb (length out) (length (table_bytes f)) ≡ false = le_ltb (length out) (length (table_bytes f)) (omega (arith, length_form f)) in
+    let s : ltb (length out) (length (table_bytes f)) ≡ false = le-ltb (length out) (length (table_bytes f)) (omega (arith, length_form f)) in
     let l : 2 + length (bytes_of 8 (map_of f.rows)) ≡ 10 = omega (arith, length_bytes_of 8 (map_of f.rows)) in
     let a = lay_append (set (set out 0 (length f.rows)) 1 f.columns) 2 (bytes_of 8 (map_of f.rows)) (rows_bytes f.rows) in
     record {
@@ -35,9 +35,9 @@ saved_whole f out out₁ out₂ r h e₁ e₂ n =
 saved_ok : (form out out' : List ℕ) (n : ℕ) → Saved form out out' (Ok n) → (length form ≤ length out) × (n ≡ length form) × (out' ≡ lay out 0 form)
 saved_ok form out out' n g =
     elim (cases_lt (length out) (length form)) [
-      | inl short ↦ let a = rw (lt_ltb (length out) (length form) short) at g.answer in let z : ◌≡◌ {A = ℕ} 0 1 = cc in absurd (omega arith)
+      | inl short ↦ let a = rw (lt-ltb (length out) (length form) short) at g.answer in let z : ◌≡◌ {A = ℕ} 0 1 = cc in absurd (omega arith)
       | inr room ↦
-          let s = le_ltb (length out) (length form) room in
+          let s = le-ltb (length out) (length form) room in
           let a = rw s at g.answer in
           let b = rw s at g.buffer in
           (room, same n (length form) a, b)

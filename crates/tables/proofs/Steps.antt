@@ -1,5 +1,5 @@
 -- Reading a table, step by step: the loop over the rows, the map, the counts. Assumes nothing.
-use Rattle.std.proofs.Common.{◌≡◌, ℕ, zero, suc, ◌+◌, ◌-◌, ◌/◌, ◌%◌, ◌^◌, ◌<◌, ◌≤◌, ◌≢◌, List, [], ◌∷◌, ◌++◌, length, get_or, take, drop, set, replicate, Some, None, Ok, Err, Result, sym, refl, ap, ◌∙◌, subst, ⊎_elim, append_assoc, append-nil, arith, length-drop, length-set, le_ltb, lt_ltb}
+use Rattle.std.proofs.Common.{◌≡◌, ℕ, zero, suc, ◌+◌, ◌-◌, ◌/◌, ◌%◌, ◌^◌, ◌<◌, ◌≤◌, ◌≢◌, List, [], ◌∷◌, ◌++◌, length, get_or, take, drop, set, replicate, Some, None, Ok, Err, Result, sym, refl, ap, ◌∙◌, subst, ⊎_elim, append_assoc, append-nil, arith, length-drop, length-set, le-ltb, lt-ltb}
 use Rattle.std.proofs.lemmas.Nat.{pow_pos}
 use Rattle.std.proofs.lemmas.List.{get_or-set_same, get_or-set_other, set_past, take_all, take_more, take_more_set}
 use Rattle.std.proofs.lemmas.Result.{IfOk-at_ok}
@@ -136,31 +136,31 @@ module _ (count columns map at : ℕ) (bs : List ℕ) (long : 8 ≤ length bs) (
   map_held =
       let ends : at + 8 + length (drop 8 bs) ≡ at + length bs = omega (arith, length-drop 8 bs) in
       let none' : None ≡ lowest_past (from_bytes (take 8 bs)) count = rw is at none in
-      rw (ends, is, le_ltb (length bs) 8 long, ← none', checked_map)
+      rw (ends, is, le-ltb (length bs) 8 long, ← none', checked_map)
 
 -- ---- the whole table
 
 pub table_none : (end at : ℕ) (bs : List ℕ) → length bs < 1 → ill Ended end ≡ table_from end at bs
 unfolding table_from
-table_none end at bs short = rw (lt_ltb (length bs) 1 short)
+table_none end at bs short = rw (lt-ltb (length bs) 1 short)
 
 module _ (at : ℕ) (bs : List ℕ) (one : 1 ≤ length bs) where
   pub table_rows : (e : TableFault) → checked_count (get_or bs 0 0) at ≡ Err e → Err e ≡ table_from (at + length bs) at bs
   unfolding table_from
-  table_rows e o = rw (le_ltb (length bs) 1 one, o)
+  table_rows e o = rw (le-ltb (length bs) 1 one, o)
 
   module _ (rows : ℕ) (o : checked_count (get_or bs 0 0) at ≡ Ok rows) where
     pub table_short : length (drop 1 bs) < 1 → ill Ended (at + length bs) ≡ table_from (at + length bs) at bs
     unfolding table_from
-    table_short short = rw (le_ltb (length bs) 1 one, o, lt_ltb (length (drop 1 bs)) 1 short)
+    table_short short = rw (le-ltb (length bs) 1 one, o, lt-ltb (length (drop 1 bs)) 1 short)
 
     module _ (two : 1 ≤ length (drop 1 bs)) where
       pub table_columns : (e : TableFault) → checked_count (get_or (drop 1 bs) 0 0) (at + 1) ≡ Err e → Err e ≡ table_from (at + length bs) at bs
       unfolding table_from
-      table_columns e p = rw (le_ltb (length bs) 1 one, o, le_ltb (length (drop 1 bs)) 1 two, p)
+      table_columns e p = rw (le-ltb (length bs) 1 one, o, le-ltb (length (drop 1 bs)) 1 two, p)
 
       pub table_map : (columns : ℕ) → checked_count (get_or (drop 1 bs) 0 0) (at + 1) ≡ Ok columns → read_map rows columns (at + 2 + length (drop 2 bs)) (at + 2) (drop 2 bs) ≡ table_from (at + length bs) at bs
       unfolding table_from
       table_map columns p =
           let ends : at + 2 + length (drop 2 bs) ≡ at + length bs = omega (arith, length-drop 2 bs, length-drop 1 bs) in
-          rw (ends, le_ltb (length bs) 1 one, o, le_ltb (length (drop 1 bs)) 1 two, p)
+          rw (ends, le-ltb (length bs) 1 one, o, le-ltb (length (drop 1 bs)) 1 two, p)

@@ -1,7 +1,7 @@
 -- Tables are an exact part, as long as their stored rows make them, and every table is lawful. Assumes nothing.
 use Rattle.std.proofs.Common.{◌≡◌, ℕ, suc, ◌+◌, ◌*◌, ◌%◌, ◌^◌, ◌<◌, ◌≤◌, min, Bool, true, false, cond, eqb, List, [], ◌∷◌, ◌++◌, map, length, get_or, take, drop, IfOk, Ok, Err, Result, sym, refl, ap, ◌∙◌, subst, ap₂, inl, inr, mod-eq_of_lt, arith, length-append, length-drop}
 use Rattle.std.proofs.lemmas.Nat.{pow_pos}
-use Rattle.std.proofs.lemmas.List.{drop_at, drop-drop, get_or_past, get_or_take, length-take, take_all}
+use Rattle.std.proofs.lemmas.List.{drop_at, drop-drop, get_or_past, get_or-take, length-take, take_all}
 use Rattle.std.proofs.lemmas.Result.{IfOk-at_ok, IfOk-weaker}
 use Rattle.std.proofs.lemmas.Bool.{cases_lt}
 use Rattle.tables.specs.declared.table.Table.{Table}
@@ -58,7 +58,7 @@ view_lawful t =
       few_rows = omega (arith, length-take t.count t.bits, t.few_rows);
       few_columns = t.few_columns;
       inside = λ k. elim (cases_lt k t.count) [
-        | inl l ↦ subst (λ (x : ℕ). x < 2 ^ t.columns) (sym (get_or_take t.count t.bits k 0 l)) (t.inside k)
+        | inl l ↦ subst (λ (x : ℕ). x < 2 ^ t.columns) (sym (get_or-take t.count t.bits k 0 l)) (t.inside k)
         | inr g ↦ subst (λ (x : ℕ). x < 2 ^ t.columns) (sym (get_or_past (take t.count t.bits) k 0 (omega (arith, length-take t.count t.bits)))) (pow_pos t.columns)
       ];
     }

@@ -2,7 +2,7 @@
 use Rattle.std.proofs.Common.{◌≡◌, ℕ, zero, suc, ◌+◌, ◌/◌, ◌%◌, ◌^◌, ◌<◌, ◌≤◌, List, [], ◌∷◌, ◌++◌, length, get_or, take, drop, set, decimal, sym, refl, ap, ◌∙◌, append_assoc, arith, length-set}
 use Rattle.text.specs.Lay.{lay}
 use Rattle.std.proofs.lemmas.Fmt.{decimal_digit, decimal_step, length-decimal-le}
-use Rattle.std.proofs.lemmas.List.{length_push, take_more, length_take_le, take_all, take_more_set, drop-set-lt, take-append-drop}
+use Rattle.std.proofs.lemmas.List.{length_push, take_more, length-take-le, take_all, take_more_set, drop-set-lt, take-append-drop}
 
 pub lay_nil : (out : List ℕ) (at : ℕ) → lay out at [] ≡ out
 unfolding lay
@@ -46,7 +46,7 @@ lay_digits out at n h s = rw (decimal_step n h s, lay_push out at (decimal (n / 
 -- one byte more of a text
 pub lay_more : (out : List ℕ) (at i : ℕ) (text : List ℕ) → i < length text → set (lay out at (take i text)) (at + i) (get_or text i 0) ≡ lay out at (take (i + 1) text)
 lay_more out at i text h =
-    let e : length (take i text) ≡ i = length_take_le i text (omega arith) in
+    let e : length (take i text) ≡ i = length-take-le i text (omega arith) in
     rw (take_more text i 0 h, lay_push out at (take i text) (get_or text i 0), e)
 
 pub lay_all : (out : List ℕ) (at i : ℕ) (text : List ℕ) → length text ≤ i → lay out at (take i text) ≡ lay out at text

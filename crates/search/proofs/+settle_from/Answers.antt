@@ -1,6 +1,6 @@
 use Rattle.std.proofs.Common.{◌≡◌, ℕ, ◌-◌, ◌<◌, length, sym, refl, ◌∙◌, arith, rules}
 use lib.Count.{count_trailing_zeros}
-use Rattle.std.proofs.lemmas.List.{length_take_le}
+use Rattle.std.proofs.lemmas.List.{length-take-le}
 use Rattle.search.specs.Walk.{Setting, setting, LeftBy}
 use Rattle.search.proofs.Going.{going_none, going_start, bay_held, going_fails, going_back, going_there, going_end}
 use Rattle.search.proofs.Narrowing.{left_next}
@@ -27,7 +27,7 @@ attempt-requires g t c =
     let w : Setting = setting (g.A.Source.graph c.args.arrangement.now) (g.R.Source.graph c.args.room.now) c.args.strict (g.F.Filter.left c.args.filter.now) in
     let some : 0 < c.loop-rest.rest = omega (arith, c.loop-rest-test.true) in
     record {
-      same = length_take_le (length c.args.rows.now - 0) c.loop-rest.next (omega (arith, c.loop-rest.invariant.long, c.requires.few)) ∙ (let z : length c.args.rows.now - 0 ≡ length c.args.rows.now = omega arith in z);
+      same = length-take-le (length c.args.rows.now - 0) c.loop-rest.next (omega (arith, c.loop-rest.invariant.long, c.requires.few)) ∙ (let z : length c.args.rows.now - 0 ≡ length c.args.rows.now = omega arith in z);
       few = c.requires.few;
       unit = c.if-u-rows.false;
       held = bay_held w c.args.last.now c.args.tied c.args.u c.args.rows.now (g.met.F.Filter.lawful c.args.filter.now) (g.R.Source.sound c.args.room.now).few c.requires.left

@@ -1,5 +1,5 @@
 use Rattle.std.proofs.Common.{◌≡◌, ℕ, ◌+◌, ◌-◌, ◌*◌, ◌<◌, ◌≤◌, Bool, true, false, ◌&&◌, ltb, List, length, get_or, take, sym, refl, ap, ◌∙◌, subst, arith}
-use Rattle.std.proofs.lemmas.Bool.{and_left, and_right, le_ltb}
+use Rattle.std.proofs.lemmas.Bool.{and_left, and_right, le-ltb}
 use Rattle.jobs.specs.Form.{view}
 use Rattle.plans.specs.declared.plan.Plan.{Plan}
 use Rattle.listings.specs.Text.{line, Wrote}
@@ -58,7 +58,7 @@ pub returns : goal.returns
 returns c =
     let stops : (c.loop-found.found && ltb c.loop-found.listed 20) ≡ false =
     elim c.loop-found-test.branch [
-      | then-loop-found-test+else-listed-lt-MOST w ↦ and_right _ _ (le_ltb c.loop-found.listed 20 w.if-listed-lt-MOST.false)
+      | then-loop-found-test+else-listed-lt-MOST w ↦ and_right _ _ (le-ltb c.loop-found.listed 20 w.if-listed-lt-MOST.false)
       | else-loop-found-test w ↦ and_left _ _ w.loop-found-test.false
     ] in
     let g = c.loop-found.invariant in

@@ -1,4 +1,4 @@
-use Rattle.std.proofs.Common.{◌≡◌, ◌≤◌, length, IfOk, Ok, Err, Result, sym, ap, ◌∙◌, arith, rules, ltb-false, ltb-true, le_ltb}
+use Rattle.std.proofs.Common.{◌≡◌, ◌≤◌, length, IfOk, Ok, Err, Result, sym, ap, ◌∙◌, arith, rules, ltb-false, ltb-true, le-ltb}
 use Rattle.tables.specs.Read.{checked_row}
 use Rattle.tables.proofs.Words.{le_8}
 use Rattle.tables.proofs.read.read_row.Goals as goal
@@ -12,6 +12,6 @@ returns c =
     let long : 8 ≤ length c.args.part.now = omega (arith, ltb-false) in
     let word = c.from-le-bytes.ensures ∙ le_8 c.args.part.now long in
     record {
-      value = rw (le_ltb (length c.args.part.now) 8 long) (c.checked_row.ensures ∙ ap (λ w. checked_row w c.args.at c.args.columns) word);
+      value = rw (le-ltb (length c.args.part.now) 8 long) (c.checked_row.ensures ∙ ap (λ w. checked_row w c.args.at c.args.columns) word);
       whole = made_always c.checked_row.result long;
     }

@@ -1,12 +1,12 @@
 use Rattle.std.proofs.Common.{◌≡◌, ℕ, ◌+◌, ◌<◌, cond, ltb, get_or, sym, refl, ap, ◌∙◌, subst, arith}
-use Rattle.std.proofs.lemmas.Bool.{le_ltb}
+use Rattle.std.proofs.lemmas.Bool.{le-ltb}
 use Rattle.plans.proofs.Steps.{zeros}
 use Rattle.plans.proofs.Opening.{Fronting, fronting_set, fronting_pass}
 use Rattle.plans.proofs.plan.calls.front_rows.Goals as goal
 use Rattle.plans.proofs.plan.calls.front_rows.Goals.{then-i-rows, else-i-rows}
 
 pub loop-i-init : goal.loop-i-init
-loop-i-init c = record { long = refl; at = λ u. zeros 24 u ∙ sym (ap (λ t. cond t (get_or c.args.rows.now u 0) 0) (le_ltb u 0 (omega arith))) }
+loop-i-init c = record { long = refl; at = λ u. zeros 24 u ∙ sym (ap (λ t. cond t (get_or c.args.rows.now u 0) 0) (le-ltb u 0 (omega arith))) }
 
 pub loop-i-preserved : goal.loop-i-preserved
 loop-i-preserved c =
