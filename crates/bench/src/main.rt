@@ -1,4 +1,6 @@
 // Filters and seeks on fixed rooms: what they come to, and with the word `time` how long they take, in nanoseconds.
+#![tactic(auto)]
+
 mod applications;
 mod chance;
 mod rooms;

@@ -1,4 +1,6 @@
 // Rule books: which unit card suits which bay card, and the rows of the pairs that suit.
+#![tactic(auto)]
+
 ghost use Rattle.std.specs.Prelude.{◌≡◌, ℕ, Bool, ◌&&◌, nat_lt};
 ghost use Rattle.graphs.specs.Rows.{pairs};
 ghost use Rattle.books.specs.Fit.{handed};

@@ -1,4 +1,6 @@
 // Arc consistency: leaves the pairs that have a support at every other unit.
+#![tactic(auto)]
+
 ghost use Rattle.std.specs.Prelude.{◌≡◌, ℕ, ◌+◌, ◌<◌, ◌≤◌, true, false, not, ◌&&◌, length, replicate, if◌then◌else◌};
 ghost use Rattle.graphs.specs.Rows.{bit, row_of};
 ghost use Rattle.placements.specs.Agreement.{agrees_if};

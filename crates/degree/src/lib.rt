@@ -1,4 +1,6 @@
 // The filter by degrees: a bay needs as many joints as the unit that stands on it.
+#![tactic(auto)]
+
 ghost use Rattle.degree.specs.Degree.{degree_meaning};
 ghost use Rattle.degree.specs.Spared.{degree_lawful};
 

@@ -1,4 +1,6 @@
 // Filters of the bays: what a filter is, and filters made of others.
+#![tactic(auto)]
+
 ghost use Rattle.std.specs.Prelude.{◌≡◌, ℕ, Bool, true, List};
 ghost use Rattle.filters.specs.Filter.{Meaning, Lawful, Counted, Resumes, shaped, empty_count};
 

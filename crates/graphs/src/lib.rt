@@ -1,4 +1,6 @@
 // Rows as sets of bays, and graphs of joints by what they answer.
+#![tactic(auto)]
+
 pub mod pairs;
 
 ghost use Rattle.std.specs.Prelude.{◌≡◌, ℕ};

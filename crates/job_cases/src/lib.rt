@@ -1,4 +1,6 @@
 // Cases of reading a job: the worked job, and each refusal that a job can meet.
+#![tactic(auto)]
+
 #[cfg(test)]
 mod tests {
     use jobs::{Edition, Job, JobFault, Mode, read_job};

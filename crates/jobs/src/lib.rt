@@ -1,4 +1,6 @@
 // Jobs: reading what a listing is asked for from its bytes.
+#![tactic(auto)]
+
 mod cards;
 mod fault;
 mod head;

@@ -1,1 +1,2 @@
 // The ledger of a plan: definitions, and their laws.
+#![tactic(auto)]

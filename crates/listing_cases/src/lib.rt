@@ -1,4 +1,6 @@
 // Cases of the job call: what the text ends with, and what the buffer keeps.
+#![tactic(auto)]
+
 #[cfg(test)]
 mod tests {
     use listings::planbench_job;

@@ -1,4 +1,6 @@
 // The job call: reads a job's bytes and writes the text that lists its placements.
+#![tactic(auto)]
+
 mod call;
 mod cards;
 mod list;

@@ -1,4 +1,6 @@
 // Which bays agree, and what a placement is.
+#![tactic(auto)]
+
 ghost use Rattle.std.specs.Prelude.{◌≡◌, ℕ, ◌<◌, length, Decides};
 ghost use Rattle.graphs.specs.Rows.{bit, row_of};
 ghost use Rattle.placements.specs.Agreement.{half, agrees_if, agrees};

@@ -1,4 +1,6 @@
 // Reads a job from standard input, at most 4096 bytes, and writes its text.
+#![tactic(auto)]
+
 ghost use Rattle.std.specs.Prelude.{◌≤◌, length, IfOk};
 
 use listings::planbench_job;

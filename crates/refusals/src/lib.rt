@@ -1,4 +1,6 @@
 // Why a call declines: one enum for all reasons, and their numbers by one definition.
+#![tactic(auto)]
+
 ghost use Rattle.std.specs.Prelude.{◌≡◌};
 ghost use Rattle.refusals.specs.Numbers.{number_of};
 

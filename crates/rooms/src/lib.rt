@@ -1,4 +1,6 @@
 // Small rooms worked through, over the definitions that the contracts cite.
+#![tactic(auto)]
+
 ghost use Rattle.std.specs.Prelude.{◌≡◌, length};
 ghost use Rattle.rooms.specs.Telling.{TellsRight};
 ghost use Rattle.rooms.specs.Table.{table, TableHolds};

@@ -1,4 +1,6 @@
 // The saved form of a plan: reading and writing it.
+#![tactic(auto)]
+
 mod fault;
 mod read;
 mod write;

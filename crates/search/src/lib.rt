@@ -1,4 +1,6 @@
 // The search for a placement: units are settled one after another, bays in rising order.
+#![tactic(auto)]
+
 ghost use Rattle.std.specs.Prelude.{◌≡◌, ℕ, ◌+◌, ◌-◌, ◌<◌, ◌≤◌, min, Bool, true, false, ◌&&◌, length, take, Some, None, nat_le, slice_index};
 ghost use Rattle.graphs.specs.Rows.{bit, row_of};
 ghost use Rattle.placements.specs.Agreement.{agrees_if};

@@ -1,4 +1,6 @@
 // The two sources of joints: a table over lent rows, and a wall grid.
+#![tactic(auto)]
+
 mod fault;
 mod table;
 #[cfg(test)]

@@ -1,4 +1,6 @@
 // Cases of reading and writing: each refusal at the lowest and at the highest place where it can stand, and round trips.
+#![tactic(auto)]
+
 #[cfg(test)]
 mod tests {
     use saved::{read_plan, save_plan};

@@ -1,4 +1,6 @@
 // The saved form of a table of rows: reading and writing it.
+#![tactic(auto)]
+
 mod fault;
 mod read;
 mod rows;

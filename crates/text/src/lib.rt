@@ -1,4 +1,6 @@
 // Text written into a buffer of bytes.
+#![tactic(auto)]
+
 ghost use Rattle.std.specs.Prelude.{◌≡◌, ℕ, ◌+◌, ◌≤◌, length, decimal, nat_le};
 ghost use Rattle.text.specs.Lay.{lay};
 ghost use Rattle.text.specs.Put.{Put};

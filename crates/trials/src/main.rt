@@ -1,4 +1,6 @@
 // Compares the search with a second one, which tests every list of bays, on random small rooms.
+#![tactic(auto)]
+
 mod chance;
 mod drawing;
 mod plain;

@@ -5,8 +5,8 @@ use Rattle.filters.specs.Counting.{ones_zero}
 use Rattle.consistency.proofs.Steps.{pair_count_set, pair_count_none, all_none}
 use Rattle.consistency.proofs.clear.Goals as goal
 
-pub overflow-add-taken : goal.overflow-add-taken
-overflow-add-taken c =
+pub overflow_add-taken : goal.overflow_add-taken
+overflow_add-taken c =
     let p = pair_count_set c.loop-row.rows c.loop-row.row-index 0 (omega arith) in
     omega (arith, ones_zero, c.loop-row.invariant.1)
 

@@ -18,21 +18,21 @@ bounds-rows-u-then-row-old c =
     (lowest_here c.args.units c.args.keep c.args.rows.now c.loop-rest.rest c.loop-rest.changed c.loop-rest.taken c.loop-rest.rows
     c.loop-rest.invariant c.requires.within (omega arith)).1
 
-pub overflow-sub-taken : goal.overflow-sub-taken
-overflow-sub-taken c = and_le_l (get_or c.loop-rest.rows (count_trailing_zeros 64 c.loop-rest.rest) 0) c.args.keep
+pub overflow_sub-taken : goal.overflow_sub-taken
+overflow_sub-taken c = and_le_l (get_or c.loop-rest.rows (count_trailing_zeros 64 c.loop-rest.rest) 0) c.args.keep
 
-pub overflow-cast-taken : goal.overflow-cast-taken
-overflow-cast-taken c =
+pub overflow_cast-taken : goal.overflow_cast-taken
+overflow_cast-taken c =
     let f = step_few c.args.units c.args.keep c.args.rows.now c.loop-rest.rest c.loop-rest.changed c.loop-rest.taken c.loop-rest.rows
     c.loop-rest.invariant (omega arith) c.requires.within c.if-row-old.true c.requires.few in omega arith
 
-pub overflow-add-taken : goal.overflow-add-taken
-overflow-add-taken c =
+pub overflow_add-taken : goal.overflow_add-taken
+overflow_add-taken c =
     let f = step_few c.args.units c.args.keep c.args.rows.now c.loop-rest.rest c.loop-rest.changed c.loop-rest.taken c.loop-rest.rows
     c.loop-rest.invariant (omega arith) c.requires.within c.if-row-old.true c.requires.few in omega arith
 
-pub overflow-shl-changed : goal.overflow-shl-changed
-overflow-shl-changed c =
+pub overflow_shl-changed : goal.overflow_shl-changed
+overflow_shl-changed c =
     (lowest_here c.args.units c.args.keep c.args.rows.now c.loop-rest.rest c.loop-rest.changed c.loop-rest.taken c.loop-rest.rows
     c.loop-rest.invariant c.requires.within (omega arith)).0
 

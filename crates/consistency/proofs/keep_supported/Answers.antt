@@ -11,16 +11,16 @@ returns g c =
     let a : Graph = g.A.Source.graph c.args.arrangement.now in
     let r : Graph = g.R.Source.graph c.args.room.now in
     let shown = c.args.rows.now in
-    let last = c.settle-shaped.new.rows in
+    let last = c.settle_shaped.new.rows in
     let most : shaped a r shown ≡ true → Greatest a r c.args.strict shown last = λ e.
-    c.settle-shaped.ensures.greatest e (all_changed a r c.args.strict shown (g.A.Source.sound c.args.arrangement.now).few) in
+    c.settle_shaped.ensures.greatest e (all_changed a r c.args.strict shown (g.A.Source.sound c.args.arrangement.now).few) in
     record {
       rows = elim (cases_Bool (shaped a r shown)) [
         | inl e ↦ meaning_is a r c.args.strict shown last e (most e)
-        | inr e ↦ c.settle-shaped.ensures.ill e ∙ sym (support_lawful.leaves a r c.args.strict shown e)
+        | inr e ↦ c.settle_shaped.ensures.ill e ∙ sym (support_lawful.leaves a r c.args.strict shown e)
       ];
-      counts = c.settle-shaped.ensures.counts;
+      counts = c.settle_shaped.ensures.counts;
       greatest = most;
       emptied = λ e. all_or_none a r c.args.strict shown last e (most e);
-      ill = c.settle-shaped.ensures.ill;
+      ill = c.settle_shaped.ensures.ill;
     }

@@ -10,12 +10,12 @@ use Rattle.consistency.proofs.settle.Goals as goal
 pub clear-requires : goal.clear-requires
 clear-requires g c = shaped_few (g.A.Source.graph c.args.arrangement.now) (g.R.Source.graph c.args.room.now) c.args.rows.now (g.R.Source.sound c.args.room.now) c.requires
 
-pub returns-then-empty-rows-ne0 : goal.returns-then-empty-rows-ne0
-returns-then-empty-rows-ne0 g c =
+pub returns-then-empty_rows-ne0 : goal.returns-then-empty_rows-ne0
+returns-then-empty_rows-ne0 g c =
     let a : Graph = g.A.Source.graph c.args.arrangement.now in
     let r : Graph = g.R.Source.graph c.args.room.now in
     let h = cleared a r c.args.strict c.args.rows.now c.args.rows.now c.clear.new.rows 0 c.clear.result c.requires
-    (thin_none a r c.args.strict c.args.rows.now (g.R.Source.sound c.args.room.now) c.requires) (some_empty c.args.rows.now (λ e. c.if-empty-rows-ne0.true (c.empty_rows.ensures ∙ e)))
+    (thin_none a r c.args.strict c.args.rows.now (g.R.Source.sound c.args.room.now) c.requires) (some_empty c.args.rows.now (λ e. c.if-empty_rows-ne0.true (c.empty_rows.ensures ∙ e)))
     c.clear.ensures.rows c.clear.ensures.taken in
     record { taken = omega (arith, h.taken); greatest = λ p. h.greatest }
 
@@ -38,8 +38,8 @@ bounds-rows-v g c =
     let r : Graph = g.R.Source.graph c.args.room.now in
     (lowest_unit a r (g.R.Source.sound c.args.room.now).few c.args.strict (g.A.Source.sound c.args.arrangement.now).few c.args.first c.args.rows.now c.sweep.rows c.sweep.changed c.sweep.taken c.sweep.invariant (omega arith)).1
 
-pub overflow-shl-others : goal.overflow-shl-others
-overflow-shl-others g c =
+pub overflow_shl-others : goal.overflow_shl-others
+overflow_shl-others g c =
     let a : Graph = g.A.Source.graph c.args.arrangement.now in
     let r : Graph = g.R.Source.graph c.args.room.now in
     let l : count_trailing_zeros 64 c.sweep.changed < a.count = (lowest_unit a r (g.R.Source.sound c.args.room.now).few c.args.strict (g.A.Source.sound c.args.arrangement.now).few c.args.first c.args.rows.now c.sweep.rows c.sweep.changed c.sweep.taken c.sweep.invariant (omega arith)).0 in
@@ -65,21 +65,21 @@ sweep-preserved g c =
     turn_end a r (g.R.Source.sound c.args.room.now).few c.args.strict (g.A.Source.sound c.args.arrangement.now).few c.args.first c.args.rows.now c.sweep.rows c.loop-class.rows c.sweep.changed c.sweep.taken c.loop-class.changed c.loop-class.taken c.loop-class.class
     c.sweep.invariant (omega arith) c.loop-class.invariant (omega arith)
 
-pub cut-class-cut-requires : goal.cut-class-cut-requires
-cut-class-cut-requires g c =
+pub cut_class-cut-requires : goal.cut_class-cut-requires
+cut_class-cut-requires g c =
     let a : Graph = g.A.Source.graph c.args.arrangement.now in
     let r : Graph = g.R.Source.graph c.args.room.now in
     let v : ℕ = count_trailing_zeros 64 c.sweep.changed in
     let lv : v < a.count = (lowest_unit a r (g.R.Source.sound c.args.room.now).few c.args.strict (g.A.Source.sound c.args.arrangement.now).few c.args.first c.args.rows.now c.sweep.rows c.sweep.changed c.sweep.taken c.sweep.invariant (omega arith)).0 in
-    let cl : Class a v (eqb (c.loop-class.class % 2) 1) (eqb (c.loop-class.class / 2) 1) c.class-of-units.result =
-    class_is a v (length c.args.rows.now) (eqb (c.loop-class.class % 2) 1) (eqb (c.loop-class.class / 2) 1) c.column-from.result c.row-to.result c.class-of-units.result
+    let cl : Class a v (eqb (c.loop-class.class % 2) 1) (eqb (c.loop-class.class / 2) 1) c.class_of-units.result =
+    class_is a v (length c.args.rows.now) (eqb (c.loop-class.class % 2) 1) (eqb (c.loop-class.class / 2) 1) c.column-from.result c.row-to.result c.class_of-units.result
     (shape_of a r c.args.rows.now c.requires).many (omega (arith, (shape_of a r c.args.rows.now c.requires).many, (g.A.Source.sound c.args.arrangement.now).few)) (omega (arith, (g.A.Source.sound c.args.arrangement.now).few))
-    c.column-from.ensures c.row-to.ensures c.class-of-units.ensures in
+    c.column-from.ensures c.row-to.ensures c.class_of-units.ensures in
     let s = shape_of a r c.loop-class.rows c.loop-class.invariant.thin.shape in
     record { within = λ u t. omega (arith, cl.below u t, s.many); below = s.rest; few = omega (arith, c.loop-class.invariant.thin.small) }
 
-pub overflow-add-taken : goal.overflow-add-taken
-overflow-add-taken g c = omega (arith, c.loop-class.invariant.thin.small, c.cut-class-cut.ensures.counted)
+pub overflow_add-taken : goal.overflow_add-taken
+overflow_add-taken g c = omega (arith, c.loop-class.invariant.thin.small, c.cut_class-cut.ensures.counted)
 
 pub loop-class-preserved : goal.loop-class-preserved
 loop-class-preserved g c =
@@ -87,19 +87,19 @@ loop-class-preserved g c =
     let r : Graph = g.R.Source.graph c.args.room.now in
     let v : ℕ = count_trailing_zeros 64 c.sweep.changed in
     let lv : v < a.count = (lowest_unit a r (g.R.Source.sound c.args.room.now).few c.args.strict (g.A.Source.sound c.args.arrangement.now).few c.args.first c.args.rows.now c.sweep.rows c.sweep.changed c.sweep.taken c.sweep.invariant (omega arith)).0 in
-    let cl : Class a v (eqb (c.loop-class.class % 2) 1) (eqb (c.loop-class.class / 2) 1) c.class-of-units.result =
-    class_is a v (length c.args.rows.now) (eqb (c.loop-class.class % 2) 1) (eqb (c.loop-class.class / 2) 1) c.column-from.result c.row-to.result c.class-of-units.result
+    let cl : Class a v (eqb (c.loop-class.class % 2) 1) (eqb (c.loop-class.class / 2) 1) c.class_of-units.result =
+    class_is a v (length c.args.rows.now) (eqb (c.loop-class.class % 2) 1) (eqb (c.loop-class.class / 2) 1) c.column-from.result c.row-to.result c.class_of-units.result
     (shape_of a r c.args.rows.now c.requires).many (omega (arith, (shape_of a r c.args.rows.now c.requires).many, (g.A.Source.sound c.args.arrangement.now).few)) (omega (arith, (g.A.Source.sound c.args.arrangement.now).few))
-    c.column-from.ensures c.row-to.ensures c.class-of-units.ensures in
+    c.column-from.ensures c.row-to.ensures c.class_of-units.ensures in
     turn_more a r (g.R.Source.sound c.args.room.now).few c.args.strict v lv c.sweep.rows (bit_and c.sweep.changed (c.sweep.changed - 1)) c.sweep.taken
     c.loop-class.rows c.loop-class.changed c.loop-class.taken c.loop-class.class c.loop-class.invariant
-    c.class-of-units.result (get_or c.sweep.rows v 0) refl cl c.cut-class-cut.new.rows c.cut-class-cut.result c.cut-class-cut.auto.rows c.cut-class-cut.ensures c.if-cut.false
+    c.class_of-units.result (get_or c.sweep.rows v 0) refl cl c.cut_class-cut.new.rows c.cut_class-cut.result c.cut_class-cut.auto.rows c.cut_class-cut.ensures c.if-cut.false
 
 pub clear-requires-2 : goal.clear-requires-2
-clear-requires-2 g c = omega (arith, c.loop-class.invariant.thin.small, c.cut-class-cut.ensures.counted)
+clear-requires-2 g c = omega (arith, c.loop-class.invariant.thin.small, c.cut_class-cut.ensures.counted)
 
-pub overflow-add-result : goal.overflow-add-result
-overflow-add-result g c = omega (arith, c.loop-class.invariant.thin.small, c.cut-class-cut.ensures.counted, c.clear-2.ensures.taken)
+pub overflow_add-result : goal.overflow_add-result
+overflow_add-result g c = omega (arith, c.loop-class.invariant.thin.small, c.cut_class-cut.ensures.counted, c.clear-2.ensures.taken)
 
 pub returns : goal.returns
 returns g c =
@@ -107,13 +107,13 @@ returns g c =
     let r : Graph = g.R.Source.graph c.args.room.now in
     let v : ℕ = count_trailing_zeros 64 c.sweep.changed in
     let lv : v < a.count = (lowest_unit a r (g.R.Source.sound c.args.room.now).few c.args.strict (g.A.Source.sound c.args.arrangement.now).few c.args.first c.args.rows.now c.sweep.rows c.sweep.changed c.sweep.taken c.sweep.invariant (omega arith)).0 in
-    let cl : Class a v (eqb (c.loop-class.class % 2) 1) (eqb (c.loop-class.class / 2) 1) c.class-of-units.result =
-    class_is a v (length c.args.rows.now) (eqb (c.loop-class.class % 2) 1) (eqb (c.loop-class.class / 2) 1) c.column-from.result c.row-to.result c.class-of-units.result
+    let cl : Class a v (eqb (c.loop-class.class % 2) 1) (eqb (c.loop-class.class / 2) 1) c.class_of-units.result =
+    class_is a v (length c.args.rows.now) (eqb (c.loop-class.class % 2) 1) (eqb (c.loop-class.class / 2) 1) c.column-from.result c.row-to.result c.class_of-units.result
     (shape_of a r c.args.rows.now c.requires).many (omega (arith, (shape_of a r c.args.rows.now c.requires).many, (g.A.Source.sound c.args.arrangement.now).few)) (omega (arith, (g.A.Source.sound c.args.arrangement.now).few))
-    c.column-from.ensures c.row-to.ensures c.class-of-units.ensures in
+    c.column-from.ensures c.row-to.ensures c.class_of-units.ensures in
     let t = turn_all a r (g.R.Source.sound c.args.room.now).few c.args.strict v lv c.sweep.rows (bit_and c.sweep.changed (c.sweep.changed - 1)) c.sweep.taken
     c.loop-class.rows c.loop-class.changed c.loop-class.taken c.loop-class.class c.loop-class.invariant
-    c.class-of-units.result (get_or c.sweep.rows v 0) refl cl c.cut-class-cut.new.rows c.cut-class-cut.result c.cut-class-cut.auto.rows c.cut-class-cut.ensures c.args.rows.now c.sweep.invariant.thin in
-    let h = cleared a r c.args.strict c.args.rows.now c.cut-class-cut.new.rows c.clear-2.new.rows (c.loop-class.taken + c.cut-class-cut.result.taken) c.clear-2.result c.requires t
-    (c.cut-class-cut.ensures.emptied c.if-cut.true) c.clear-2.ensures.rows c.clear-2.ensures.taken in
+    c.class_of-units.result (get_or c.sweep.rows v 0) refl cl c.cut_class-cut.new.rows c.cut_class-cut.result c.cut_class-cut.auto.rows c.cut_class-cut.ensures c.args.rows.now c.sweep.invariant.thin in
+    let h = cleared a r c.args.strict c.args.rows.now c.cut_class-cut.new.rows c.clear-2.new.rows (c.loop-class.taken + c.cut_class-cut.result.taken) c.clear-2.result c.requires t
+    (c.cut_class-cut.ensures.emptied c.if-cut.true) c.clear-2.ensures.rows c.clear-2.ensures.taken in
     record { taken = h.taken; greatest = λ p. h.greatest }

@@ -17,7 +17,7 @@ loop-row-preserved g c =
     below_more _ _ c.loop-row.invariant
     (elim c.else-bays-lt64.branch [
       | else-bays-lt64-via-then-bays-lt64+else-row-bays-ne0 w ↦ below_none x c.count-bays.result w.if-row-bays-ne0.false
-      | else-bays-lt64-via-else-bays-lt64 w ↦ let m : 2 ^ 64 ≤ 2 ^ c.count-bays.result = pow_mono w.if-bays-lt64.false in omega (arith, (c.type-inv.rows c.loop-row.row-index).fits)
+      | else-bays-lt64-via-else-bays-lt64 w ↦ let m : 2 ^ 64 ≤ 2 ^ c.count-bays.result = pow_mono w.if-bays-lt64.false in omega (arith, (c.type_inv.rows c.loop-row.row-index).fits)
     ])
 
 pub returns : goal.returns

@@ -12,7 +12,7 @@ returns g c =
     let G : Graph = g.R.Source.graph c.args.room.now in
     let few : G.count ≤ 64 = (g.R.Source.sound c.args.room.now).few in
     agreeing_row G few c.args.out c.args.back c.args.strict c.args.c
-    c.if-c-lt64.others c.one-way.result c.one-way-2.result
+    c.if-c-lt64.others c.one_way.result c.one_way-2.result
     (λ k. elim c.if-c-lt64.branch [
       | then-c-lt64 w ↦
           ap (λ (x : ℕ). bit x k) w.others-is
@@ -23,5 +23,5 @@ returns g c =
           ∙ ap (λ (n : ℕ). bit (18446744073709551615 / 2 ^ (64 - n)) k) c.count.ensures
           ∙ others_high G.count c.args.c few w.if-c-lt64.false k
     ])
-    (λ k l. c.one-way.ensures k l ∙ ap (λ (x : ℕ). half c.args.strict c.args.out (bit x k)) c.column.ensures)
-    (λ k l. c.one-way-2.ensures k l ∙ ap (λ (x : ℕ). half c.args.strict c.args.back (bit x k)) c.row.ensures)
+    (λ k l. c.one_way.ensures k l ∙ ap (λ (x : ℕ). half c.args.strict c.args.out (bit x k)) c.column.ensures)
+    (λ k l. c.one_way-2.ensures k l ∙ ap (λ (x : ℕ). half c.args.strict c.args.back (bit x k)) c.row.ensures)

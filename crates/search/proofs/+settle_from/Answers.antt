@@ -10,17 +10,17 @@ use Rattle.search.proofs.+settle_from.Goals as goal
 pub returns-then-u-rows : goal.returns-then-u-rows
 returns-then-u-rows g t c =
     let w : Setting = setting (g.A.Source.graph c.args.arrangement.now) (g.R.Source.graph c.args.room.now) c.args.strict (g.F.Filter.left c.args.filter.now) in
-    let s = going_none w c.args.last.now c.args.tied c.args.u c.args.rows.now c.args.tries c.lowest-bays.result c.if-u-rows.true c.ranges.tries.fits c.lowest-bays.ensures in
+    let s = going_none w c.args.last.now c.args.tied c.args.u c.args.rows.now c.args.tries c.lowest_bays.result c.if-u-rows.true c.ranges.tries.fits c.lowest_bays.ensures in
     record { found = s.bays; tries = s.tries }
 
 pub loop-rest-init : goal.loop-rest-init
 loop-rest-init g t c =
     let w : Setting = setting (g.A.Source.graph c.args.arrangement.now) (g.R.Source.graph c.args.room.now) c.args.strict (g.F.Filter.left c.args.filter.now) in
     going_start w c.args.last.now c.args.tied c.args.u c.args.rows.now (g.met.F.Filter.lawful c.args.filter.now) (g.R.Source.sound c.args.room.now).few c.requires.left
-    c.args.tries c.offers-rest.result _ c.if-u-rows.false c.offers-rest.ensures c.offers-rest.type-inv c.ranges.tries.fits refl
+    c.args.tries c.offers-rest.result _ c.if-u-rows.false c.offers-rest.ensures c.offers-rest.type_inv c.ranges.tries.fits refl
 
-pub slice-bounds-next-end : goal.slice-bounds-next-end
-slice-bounds-next-end g t c = let k = c.loop-rest.invariant.long in search rules
+pub slice_bounds-next-end : goal.slice_bounds-next-end
+slice_bounds-next-end g t c = let k = c.loop-rest.invariant.long in search rules
 
 pub attempt-requires : goal.attempt-requires
 attempt-requires g t c =
@@ -35,8 +35,8 @@ attempt-requires g t c =
       left = c.requires.left;
     }
 
-pub settle-from-deeper-requires : goal.settle-from-deeper-requires
-settle-from-deeper-requires g t c =
+pub settle_from-deeper-requires : goal.settle_from-deeper-requires
+settle_from-deeper-requires g t c =
     let w : Setting = setting (g.A.Source.graph c.args.arrangement.now) (g.R.Source.graph c.args.room.now) c.args.strict (g.F.Filter.left c.args.filter.now) in
     let some : 0 < c.loop-rest.rest = omega (arith, c.loop-rest-test.true) in
     let lawful = g.met.F.Filter.lawful c.args.filter.now in
@@ -48,16 +48,16 @@ settle-from-deeper-requires g t c =
     c.attempt.new.next c.attempt.ensures.left in
     search rules
 
-pub returns-then-is-some : goal.returns-then-is-some
-returns-then-is-some g t c =
+pub returns-then-is_some : goal.returns-then-is_some
+returns-then-is_some g t c =
     let w : Setting = setting (g.A.Source.graph c.args.arrangement.now) (g.R.Source.graph c.args.room.now) c.args.strict (g.F.Filter.left c.args.filter.now) in
     let some : 0 < c.loop-rest.rest = omega (arith, c.loop-rest-test.true) in
-    let deep = c.settle-from-deeper.ensures in
+    let deep = c.settle_from-deeper.ensures in
     let s = going_there w c.args.last.now c.args.tied c.args.u c.args.rows.now (g.met.F.Filter.lawful c.args.filter.now) (g.R.Source.sound c.args.room.now).few c.requires.left
     c.args.tries c.loop-rest.so_far c.loop-rest.rest c.loop-rest.next c.loop-rest.invariant some
-    c.attempt.new.next c.attempt.ensures.left c.requires.few c.saturating-add-so-far.result c.saturating-add-so-far.ensures
-    (sym c.attempt.ensures.empty ∙ c.if-not-attempt.true) c.settle-from-deeper.result.found c.settle-from-deeper.result.tries (record { bays = deep.found; tries = deep.tries })
-    (sym c.is-some.ensures ∙ c.if-is-some.true) in
+    c.attempt.new.next c.attempt.ensures.left c.requires.few c.saturating_add-so_far.result c.saturating_add-so_far.ensures
+    (sym c.attempt.ensures.empty ∙ c.if-not-attempt.true) c.settle_from-deeper.result.found c.settle_from-deeper.result.tries (record { bays = deep.found; tries = deep.tries })
+    (sym c.is_some.ensures ∙ c.if-is_some.true) in
     record { found = s.bays; tries = s.tries }
 
 pub loop-rest-smaller-then-not-attempt : goal.loop-rest-smaller-then-not-attempt
@@ -67,12 +67,12 @@ pub loop-rest-preserved-then-not-attempt : goal.loop-rest-preserved-then-not-att
 loop-rest-preserved-then-not-attempt g t c =
     let w : Setting = setting (g.A.Source.graph c.args.arrangement.now) (g.R.Source.graph c.args.room.now) c.args.strict (g.F.Filter.left c.args.filter.now) in
     let some : 0 < c.loop-rest.rest = omega (arith, c.loop-rest-test.true) in
-    let deep = c.settle-from-deeper.ensures in
+    let deep = c.settle_from-deeper.ensures in
     going_back w c.args.last.now c.args.tied c.args.u c.args.rows.now (g.met.F.Filter.lawful c.args.filter.now) (g.R.Source.sound c.args.room.now).few c.requires.left
     c.args.tries c.loop-rest.so_far c.loop-rest.rest c.loop-rest.next c.loop-rest.invariant some
-    c.attempt.new.next c.attempt.ensures.left c.requires.few c.saturating-add-so-far.result c.saturating-add-so-far.ensures
-    (sym c.attempt.ensures.empty ∙ c.if-not-attempt.true) c.settle-from-deeper.result.found c.settle-from-deeper.result.tries (record { bays = deep.found; tries = deep.tries })
-    (sym c.is-some.ensures ∙ c.if-is-some.false)
+    c.attempt.new.next c.attempt.ensures.left c.requires.few c.saturating_add-so_far.result c.saturating_add-so_far.ensures
+    (sym c.attempt.ensures.empty ∙ c.if-not-attempt.true) c.settle_from-deeper.result.found c.settle_from-deeper.result.tries (record { bays = deep.found; tries = deep.tries })
+    (sym c.is_some.ensures ∙ c.if-is_some.false)
 
 pub loop-rest-smaller : goal.loop-rest-smaller
 loop-rest-smaller g t c = rest_falls c.loop-rest.rest c.loop-rest-test.true
@@ -83,7 +83,7 @@ loop-rest-preserved g t c =
     let some : 0 < c.loop-rest.rest = omega (arith, c.loop-rest-test.true) in
     going_fails w c.args.last.now c.args.tied c.args.u c.args.rows.now (g.met.F.Filter.lawful c.args.filter.now) (g.R.Source.sound c.args.room.now).few c.requires.left
     c.args.tries c.loop-rest.so_far c.loop-rest.rest c.loop-rest.next c.loop-rest.invariant some
-    c.attempt.new.next c.attempt.ensures.left c.requires.few c.saturating-add-so-far.result c.saturating-add-so-far.ensures
+    c.attempt.new.next c.attempt.ensures.left c.requires.few c.saturating_add-so_far.result c.saturating_add-so_far.ensures
     (sym c.attempt.ensures.empty ∙ c.if-not-attempt.false)
 
 pub returns : goal.returns

@@ -11,10 +11,10 @@ use Rattle.search.proofs.Counted.{counts_tries}
 use Rattle.search.proofs.Whole.{finds_first}
 use Rattle.search.proofs.first.Goals as goal
 
-pub returns-then-not-well-shaped : goal.returns-then-not-well-shaped
-returns-then-not-well-shaped g c =
+pub returns-then-not-well_shaped : goal.returns-then-not-well_shaped
+returns-then-not-well_shaped g c =
     let w : Setting = setting (g.A.Source.graph c.args.arrangement.now) (g.R.Source.graph c.args.room.now) c.args.strict (g.F.Filter.left c.args.filter.now) in
-    let ill : shaped w.arrangement w.room c.args.rows.now ≡ false = sym c.well-shaped.ensures ∙ c.if-not-well-shaped.true in
+    let ill : shaped w.arrangement w.room c.args.rows.now ≡ false = sym c.well_shaped.ensures ∙ c.if-not-well_shaped.true in
     record {
       answer = declined (shaped w.arrangement w.room c.args.rows.now) (walk_from w [] false c.args.rows.now) ill;
       first = λ ok. both_ways _ ill ok;
@@ -29,13 +29,13 @@ pub returns : goal.returns
 returns g c =
     let w : Setting = setting (g.A.Source.graph c.args.arrangement.now) (g.R.Source.graph c.args.room.now) c.args.strict (g.F.Filter.left c.args.filter.now) in
     let rows = c.args.rows.now in
-    let ok : shaped w.arrangement w.room rows ≡ true = sym c.well-shaped.ensures ∙ c.if-not-well-shaped.false in
+    let ok : shaped w.arrangement w.room rows ≡ true = sym c.well_shaped.ensures ∙ c.if-not-well_shaped.false in
     let o : Outcome = walk_from w [] false rows in
-    let is : c.search-rows.result ≡ answer_with o.found o.tries =
-    c.search-rows.ensures ∙ ap (λ (x : Outcome). answer_with x.found x.tries) (walk_unread w (replicate 24 0) [] rows) in
+    let is : c.search_rows.result ≡ answer_with o.found o.tries =
+    c.search_rows.ensures ∙ ap (λ (x : Outcome). answer_with x.found x.tries) (walk_unread w (replicate 24 0) [] rows) in
     record {
-      answer = accepted (shaped w.arrangement w.room rows) o c.search-rows.result ok is;
-      first = λ _. searched (Sought w.arrangement w.room w.strict rows) (length rows) o c.search-rows.result is
+      answer = accepted (shaped w.arrangement w.room rows) o c.search_rows.result ok is;
+      first = λ _. searched (Sought w.arrangement w.room w.strict rows) (length rows) o c.search_rows.result is
           (λ q h. h.0.whole ∙ sym (shape_of w.arrangement w.room rows ok).many)
           (finds_first w rows (g.met.F.Filter.lawful c.args.filter.now) (g.A.Source.sound c.args.arrangement.now) (g.R.Source.sound c.args.room.now) ok);
       theorem = finds_first;

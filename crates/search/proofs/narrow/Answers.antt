@@ -9,7 +9,7 @@ use Rattle.search.proofs.narrow.Goals as goal
 pub loop-v-init : goal.loop-v-init
 loop-v-init g c =
     narrows_start (g.A.Source.graph c.args.arrangement.now) (g.R.Source.graph c.args.room.now) c.args.strict c.args.u c.args.b
-    c.args.rows.now c.copy-from-slice.new.self c.requires.unit c.requires.few c.requires.bay c.copy-from-slice.ensures.after
+    c.args.rows.now c.copy_from_slice.new.self c.requires.unit c.requires.few c.requires.bay c.copy_from_slice.ensures.after
 
 pub bounds-next-v : goal.bounds-next-v
 bounds-next-v g c = omega (arith, c.loop-v.invariant.long, c.loop-v-test.true)

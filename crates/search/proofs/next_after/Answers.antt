@@ -9,13 +9,13 @@ use Rattle.search.proofs.Counted.{counts_tries}
 use Rattle.search.proofs.Whole.{finds_next}
 use Rattle.search.proofs.next_after.Goals as goal
 
-pub returns-then-not-well-shaped-rows : goal.returns-then-not-well-shaped-rows
-returns-then-not-well-shaped-rows g c =
+pub returns-then-not-well_shaped-rows : goal.returns-then-not-well_shaped-rows
+returns-then-not-well_shaped-rows g c =
     let w : Setting = setting (g.A.Source.graph c.args.arrangement.now) (g.R.Source.graph c.args.room.now) c.args.strict (g.F.Filter.left c.args.filter.now) in
     let rows = c.args.rows.now in
     let last = c.args.last.now in
     let ill : (shaped w.arrangement w.room rows && leb (length rows) (length last)) ≡ false =
-    ap (λ (t : Bool). t && leb (length rows) (length last)) (sym c.well-shaped.ensures) ∙ c.if-not-well-shaped-rows.true in
+    ap (λ (t : Bool). t && leb (length rows) (length last)) (sym c.well_shaped.ensures) ∙ c.if-not-well_shaped-rows.true in
     record {
       answer = declined (shaped w.arrangement w.room rows && leb (length rows) (length last)) (walk_from w (take (length rows) last) true rows) ill;
       next = λ ok. both_ways _ ill ok;
@@ -29,15 +29,15 @@ returns g c =
     let rows = c.args.rows.now in
     let last = c.args.last.now in
     let ok : (shaped w.arrangement w.room rows && leb (length rows) (length last)) ≡ true =
-    ap (λ (t : Bool). t && leb (length rows) (length last)) (sym c.well-shaped.ensures) ∙ c.if-not-well-shaped-rows.false in
+    ap (λ (t : Bool). t && leb (length rows) (length last)) (sym c.well_shaped.ensures) ∙ c.if-not-well_shaped-rows.false in
     let sh : shaped w.arrangement w.room rows ≡ true = (and_parts (shaped w.arrangement w.room rows) (leb (length rows) (length last)) ok).0 in
     let before : List ℕ = take (length rows) last in
     let o : Outcome = walk_from w before true rows in
-    let is : c.search-rows.result ≡ answer_with o.found o.tries =
-    c.search-rows.ensures ∙ ap (λ (k : ℕ). answer_with (walk_from w (take k last) true rows).found (walk_from w (take k last) true rows).tries) (let z : length rows - 0 ≡ length rows = omega arith in z) in
+    let is : c.search_rows.result ≡ answer_with o.found o.tries =
+    c.search_rows.ensures ∙ ap (λ (k : ℕ). answer_with (walk_from w (take k last) true rows).found (walk_from w (take k last) true rows).tries) (let z : length rows - 0 ≡ length rows = omega arith in z) in
     record {
-      answer = accepted (shaped w.arrangement w.room rows && leb (length rows) (length last)) o c.search-rows.result ok is;
-      next = λ _. searched (SoughtAfter w.arrangement w.room w.strict rows before) (length rows) o c.search-rows.result is
+      answer = accepted (shaped w.arrangement w.room rows && leb (length rows) (length last)) o c.search_rows.result ok is;
+      next = λ _. searched (SoughtAfter w.arrangement w.room w.strict rows before) (length rows) o c.search_rows.result is
           (λ q h. h.0.whole ∙ sym (shape_of w.arrangement w.room rows sh).many)
           (finds_next w rows before (g.met.F.Filter.lawful c.args.filter.now) (g.A.Source.sound c.args.arrangement.now) (g.R.Source.sound c.args.room.now) sh);
       theorem = finds_next;

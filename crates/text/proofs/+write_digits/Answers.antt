@@ -12,19 +12,19 @@ returns-then-n-lt10 t c =
       after = lay_digit _ _ _ c.if-n-lt10.true;
     }
 
-pub write-digits-last-requires : goal.write-digits-last-requires
-write-digits-last-requires t c =
+pub write_digits-last-requires : goal.write_digits-last-requires
+write_digits-last-requires t c =
     (omega arith, omega (arith, length_more c.args.n c.if-n-lt10.false (omega arith), c.requires))
 
 pub bounds-out-last : goal.bounds-out-last
-bounds-out-last t c = omega (arith, length_more c.args.n c.if-n-lt10.false (omega arith), c.requires, c.write-digits-last.ensures.place)
+bounds-out-last t c = omega (arith, length_more c.args.n c.if-n-lt10.false (omega arith), c.requires, c.write_digits-last.ensures.place)
 
-pub overflow-add-result-2 : goal.overflow-add-result-2
-overflow-add-result-2 t c = omega (arith, length_more c.args.n c.if-n-lt10.false (omega arith), c.requires, c.write-digits-last.ensures.place)
+pub overflow_add-result-2 : goal.overflow_add-result-2
+overflow_add-result-2 t c = omega (arith, length_more c.args.n c.if-n-lt10.false (omega arith), c.requires, c.write_digits-last.ensures.place)
 
 pub returns : goal.returns
 returns t c =
     record {
-      place = omega (arith, length_more c.args.n c.if-n-lt10.false (omega arith), c.write-digits-last.ensures.place);
-      after = simp (c.write-digits-last.ensures.after, c.write-digits-last.ensures.place) (lay_digits _ _ _ c.if-n-lt10.false (omega arith));
+      place = omega (arith, length_more c.args.n c.if-n-lt10.false (omega arith), c.write_digits-last.ensures.place);
+      after = simp (c.write_digits-last.ensures.after, c.write_digits-last.ensures.place) (lay_digits _ _ _ c.if-n-lt10.false (omega arith));
     }

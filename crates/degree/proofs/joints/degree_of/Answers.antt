@@ -7,5 +7,5 @@ pub returns : goal.returns
 returns g c =
     let G : Graph = g.S.Source.graph c.args.source.now in
     let sound = g.S.Source.sound c.args.source.now in
-    let e = c.joint-count.ensures ∙ degree_full G sound c.args.node in
+    let e = c.joint_count.ensures ∙ degree_full G sound c.args.node in
     record { degree = e; below = subst (λ (k : ℕ). k < G.count) (sym e) (degree_less G sound c.args.node) }

@@ -14,8 +14,8 @@ counted g c =
     let G : Graph = g.S.Source.graph c.args.source.now in
     ap (λ (x : ℕ). ones (bit_and x c.args.within)) c.row.ensures ∙ ones_within G.count (G.joined c.args.node) c.args.within
 
-pub overflow-cast-result : goal.overflow-cast-result
-overflow-cast-result g c =
+pub overflow_cast-result : goal.overflow_cast-result
+overflow_cast-result g c =
     let G : Graph = g.S.Source.graph c.args.source.now in
     omega (arith, counted g c, count_le G.count (λ b. G.joined c.args.node b && bit c.args.within b), (g.S.Source.sound c.args.source.now).few)
 

@@ -8,7 +8,7 @@ use Rattle.degree.proofs.joints.with_fewer.Goals as goal
 pub loop-k-init : goal.loop-k-init
 loop-k-init g c =
     let G : Graph = g.S.Source.graph c.args.source.now in
-    summed_none G.count (degree_within G all_nodes) c.with-joints-rows.result (omega arith) c.with-joints-rows.ensures.none c.with-joints-rows.ensures.exact
+    summed_none G.count (degree_within G all_nodes) c.with_joints-rows.result (omega arith) c.with_joints-rows.ensures.none c.with_joints-rows.ensures.exact
 
 pub loop-k-preserved : goal.loop-k-preserved
 loop-k-preserved g c =

@@ -11,8 +11,8 @@ loop-b-init g c = sorted_none (degree_within (g.S.Source.graph c.args.source.now
 pub loop-b-preserved : goal.loop-b-preserved
 loop-b-preserved g c =
     let few = (g.S.Source.sound c.args.source.now).few in
-    sorted_more (degree_within (g.S.Source.graph c.args.source.now) all_nodes) c.loop-b.b c.degree-of.result c.loop-b.rows
-    c.degree-of.ensures.degree (omega (arith, few, c.degree-of.ensures.below)) (omega (arith, few, c.count-b-end.ensures, c.loop-b-test.true)) c.loop-b.invariant
+    sorted_more (degree_within (g.S.Source.graph c.args.source.now) all_nodes) c.loop-b.b c.degree_of.result c.loop-b.rows
+    c.degree_of.ensures.degree (omega (arith, few, c.degree_of.ensures.below)) (omega (arith, few, c.count-b-end.ensures, c.loop-b-test.true)) c.loop-b.invariant
 
 pub returns : goal.returns
 returns g c =

@@ -10,7 +10,7 @@ returns-then-strict c b =
     let row : ℕ = c.args.row in
     let x : ℕ = get_or c.args.fewer.now c.args.joints 0 in
     let y : ℕ = get_or c.args.fewer.now (c.args.bays - (c.args.units - 1 - c.args.joints)) 0 in
-    ap (λ (j : ℕ). bit (bit_and (bit_and row (18446744073709551615 - x)) (get_or c.args.fewer.now j 0)) b) c.saturating-sub.ensures
+    ap (λ (j : ℕ). bit (bit_and (bit_and row (18446744073709551615 - x)) (get_or c.args.fewer.now j 0)) b) c.saturating_sub.ensures
     ∙ bit_of_and (bit_and row (18446744073709551615 - x)) y b
     ∙ ap (λ (t : Bool). t && bit y b) (bit_without row x b (omega (arith, c.ranges.row.fits)) (c.fits-fewer c.args.joints))
     ∙ in_strict_use (bit row b) (not (bit x b)) c.args.strict (bit y b) c.if-strict.true

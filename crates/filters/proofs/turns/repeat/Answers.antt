@@ -9,8 +9,8 @@ turn-init g c =
     let f : Meaning = g.F.Filter.left c.args.filter.now in
     again_start f (g.met.F.Filter.lawful c.args.filter.now) (g.A.Source.graph c.args.arrangement.now) (g.R.Source.graph c.args.room.now) c.args.strict c.args.rows.now
 
-pub overflow-add-taken : goal.overflow-add-taken
-overflow-add-taken g c =
+pub overflow_add-taken : goal.overflow_add-taken
+overflow_add-taken g c =
     let f : Meaning = g.F.Filter.left c.args.filter.now in
     let h = again_fits f (g.met.F.Filter.lawful c.args.filter.now)
     (g.A.Source.graph c.args.arrangement.now) (g.R.Source.graph c.args.room.now) c.args.strict

@@ -19,7 +19,7 @@ pub loop-k-init : goal.loop-k-init
 loop-k-init c = filled_none _
 
 pub loop-k-preserved : goal.loop-k-preserved
-loop-k-preserved c = filled_more _ _ _ _ c.loop-k.invariant (omega arith) (omega (arith, c.from-le-bytes.ensures))
+loop-k-preserved c = filled_more _ _ _ _ c.loop-k.invariant (omega arith) (omega (arith, c.from_le_bytes.ensures))
 
 pub returns : goal.returns
 returns c =

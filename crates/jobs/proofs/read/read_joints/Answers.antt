@@ -12,13 +12,13 @@ use Rattle.jobs.proofs.Joints.{joint_decides}
 use Rattle.jobs.proofs.Reading.{checked_fails, checked_not, checked_done, inside_fails, inside_done}
 use Rattle.jobs.proofs.read.read_joints.Goals as goal
 
-pub returns-in-err-table : goal.returns-in-err-table
-returns-in-err-table c =
-    let p = err_from_is_err_and c.from-residual.result c.from-residual.ensures.1 in
+pub returns-in_err-table : goal.returns-in_err-table
+returns-in_err-table c =
+    let p = err_from_is_err_and c.from_residual.result c.from_residual.ensures.1 in
     record {
       value = rw (p.1, p.2)
           (sym (checked_fails (inside read_table J.Table) c.args.input.now c.args.at joint_test (λ at. J.Joints (fault_at at))
-          (inside_fails read_table c.args.input.now c.args.at J.Table (sym c.in-err-table.ensures.value))));
+          (inside_fails read_table c.args.input.now c.args.at J.Table (sym c.in_err-table.ensures.value))));
       within = rw p.1 tt;
     }
 
@@ -38,16 +38,16 @@ pub returns-in-Ok : goal.returns-in-Ok
 returns-in-Ok c =
     record {
       value = sym (checked_done (inside read_table J.Table) c.args.input.now c.args.at joint_test (λ at. J.Joints (fault_at at))
-          (inside_done read_table c.args.input.now c.args.at J.Table (sym c.in-ok-table.ensures.value))
-          (passes (view c.in-ok-table.table) c.rows.result.now c.columns.result c.rows.ensures.value c.columns.ensures c.in-Ok.ensures));
-      within = c.in-ok-table.ensures.within;
+          (inside_done read_table c.args.input.now c.args.at J.Table (sym c.in_ok-table.ensures.value))
+          (passes (view c.in_ok-table.table) c.rows.result.now c.columns.result c.rows.ensures.value c.columns.ensures c.in-Ok.ensures));
+      within = c.in_ok-table.ensures.within;
     }
 
 pub returns-in-Err : goal.returns-in-Err
 returns-in-Err c =
     record {
       value = sym (checked_not (inside read_table J.Table) c.args.input.now c.args.at joint_test (λ at. J.Joints (fault_at at))
-          (inside_done read_table c.args.input.now c.args.at J.Table (sym c.in-ok-table.ensures.value))
-          (fails (view c.in-ok-table.table) c.rows.result.now c.columns.result c.rows.ensures.value c.columns.ensures c.in-Err.ensures.0));
+          (inside_done read_table c.args.input.now c.args.at J.Table (sym c.in_ok-table.ensures.value))
+          (fails (view c.in_ok-table.table) c.rows.result.now c.columns.result c.rows.ensures.value c.columns.ensures c.in-Err.ensures.0));
       within = tt;
     }

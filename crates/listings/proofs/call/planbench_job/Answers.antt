@@ -14,22 +14,22 @@ returns-then-output-lt-ROOM c =
       one_text = one_text;
     }
 
-pub slice-bounds-fitted-plan-count : goal.slice-bounds-fitted-plan-count
-slice-bounds-fitted-plan-count c = plan_inside _ _ _ c.in-Ok.ensures.plan
+pub slice_bounds-fitted_plan-count : goal.slice_bounds-fitted_plan-count
+slice_bounds-fitted_plan-count c = plan_inside _ _ _ c.in-Ok.ensures.plan
 
-pub slice-bounds-fitted-plan-start : goal.slice-bounds-fitted-plan-start
-slice-bounds-fitted-plan-start c = plan_inside _ _ _ c.in-Ok.ensures.plan
+pub slice_bounds-fitted_plan-start : goal.slice_bounds-fitted_plan-start
+slice_bounds-fitted_plan-start c = plan_inside _ _ _ c.in-Ok.ensures.plan
 
-pub fitted-plan-plan-requires : goal.fitted-plan-plan-requires
-fitted-plan-plan-requires c =
+pub fitted_plan-plan-requires : goal.fitted_plan-plan-requires
+fitted_plan-plan-requires c =
     record { lawful = c.in-Ok.ensures.lawful; saved = take_rest c.args.input.now c.in-Ok.job.plan_at ∙ c.in-Ok.ensures.plan }
 
 pub returns-in-Ok : goal.returns-in-Ok
 returns-in-Ok c =
     record {
       short = λ h. absurd (omega (arith, c.if-output-lt-ROOM.false));
-      enough = λ _. answer_listed _ _ _ _ _ c.in-Ok.ensures.value c.write-listing-written.ensures.listing;
-      within = c.write-listing-written.ensures.near;
+      enough = λ _. answer_listed _ _ _ _ _ c.in-Ok.ensures.value c.write_listing-written.ensures.listing;
+      within = c.write_listing-written.ensures.near;
       one_text = one_text;
     }
 
@@ -37,7 +37,7 @@ pub returns-in-Err : goal.returns-in-Err
 returns-in-Err c =
     record {
       short = λ h. absurd (omega (arith, c.if-output-lt-ROOM.false));
-      enough = λ _. answer_refused _ _ _ _ _ c.in-Err.ensures.value (wrote_same (ap refusal_text c.told.ensures) c.write-refusal-written.ensures.wrote);
-      within = c.write-refusal-written.ensures.near;
+      enough = λ _. answer_refused _ _ _ _ _ c.in-Err.ensures.value (wrote_same (ap refusal_text c.told.ensures) c.write_refusal-written.ensures.wrote);
+      within = c.write_refusal-written.ensures.near;
       one_text = one_text;
     }

@@ -15,16 +15,16 @@ loop-found-init c =
     let law = c.requires.lawful in
     let ea = taken_as j.arrangement _ _ _ law.arrangement c.rows.ensures.value c.columns.ensures c.new-arrangement.ensures in
     let er = taken_as j.room _ _ _ law.room c.rows-2.ensures.value c.columns-2.ensures c.new-room.ensures in
-    let at = seek_at j law _ ea er c.is-strict-strict.ensures _ _ c.seek.result _ _ refl c.requires.fitted c.seek.ensures.step in
+    let at = seek_at j law _ ea er c.is_strict-strict.ensures _ _ c.seek.result _ _ refl c.requires.fitted c.seek.ensures.step in
     written_none j law c.args.out.now _ _ _
-    (subst (λ (b : Bool). At j 0 b c.seek.new.out c.seek.new.self) (sym c.is-ok-found.ensures.value) at)
+    (subst (λ (b : Bool). At j 0 b c.seek.new.out c.seek.new.self) (sym c.is_ok-found.ensures.value) at)
 
 -- the line that the loop writes
 units_front : (n m : ℕ) (bays : List ℕ) → n ≡ m → take (n - 0) bays ≡ take m bays
 units_front n m bays e = ap (λ k. take k bays) (let z : n - 0 ≡ m = omega arith in z)
 
-pub write-line-at-requires : goal.write-line-at-requires
-write-line-at-requires c =
+pub write_line-at-requires : goal.write_line-at-requires
+write_line-at-requires c =
     let j = view c.args.job.now in
     let law = c.requires.lawful in
     let g = c.loop-found.invariant in
@@ -43,14 +43,14 @@ loop-found-preserved c =
     let ea = taken_as j.arrangement _ _ _ law.arrangement c.rows.ensures.value c.columns.ensures c.new-arrangement.ensures in
     let er = taken_as j.room _ _ _ law.room c.rows-2.ensures.value c.columns-2.ensures c.new-room.ensures in
     let front = units_front (length c.rows-units.result.now) (length j.struck.rows) c.loop-found.bays (ap length c.rows-units.ensures.value) in
-    let at = further_at j law _ ea er c.is-strict-strict.ensures _ _ c.further.result _ _ g.stands.long c.loop-found.listed
+    let at = further_at j law _ ea er c.is_strict-strict.ensures _ _ c.further.result _ _ g.stands.long c.loop-found.listed
     (g.stands.listed c.loop-found-test.true) (g.stands.last c.loop-found-test.true) c.further.ensures.step in
     written_more j law g c.loop-found-test.true _ _ _ _ _ c.if-listed-lt-MOST.true
-    (subst (λ (w : List ℕ). Wrote (line w) c.loop-found.at c.loop-found.out c.write-line-at.new.out c.write-line-at.result) front c.write-line-at.ensures)
-    (subst (λ (b : Bool). At j (c.loop-found.listed + 1) b c.further.new.out c.further.new.self) (sym c.is-ok-found-in-loop-found.ensures.value) at)
+    (subst (λ (w : List ℕ). Wrote (line w) c.loop-found.at c.loop-found.out c.write_line-at.new.out c.write_line-at.result) front c.write_line-at.ensures)
+    (subst (λ (b : Bool). At j (c.loop-found.listed + 1) b c.further.new.out c.further.new.self) (sym c.is_ok-found-in-loop-found.ensures.value) at)
 
-pub write-last-requires : goal.write-last-requires
-write-last-requires c =
+pub write_last-requires : goal.write_last-requires
+write_last-requires c =
     let g = c.loop-found.invariant in
     omega (arith, near (view c.args.job.now) c.requires.lawful g, g.few, c.requires.room)
 
@@ -63,6 +63,6 @@ returns c =
     ] in
     let g = c.loop-found.invariant in
     record {
-      near = omega (arith, near (view c.args.job.now) c.requires.lawful g, g.few, c.write-last.ensures.near);
-      listing = written_all (view c.args.job.now) c.requires.lawful g _ _ stops c.write-last.ensures.wrote;
+      near = omega (arith, near (view c.args.job.now) c.requires.lawful g, g.few, c.write_last.ensures.near);
+      listing = written_all (view c.args.job.now) c.requires.lawful g _ _ stops c.write_last.ensures.wrote;
     }

@@ -4,15 +4,15 @@ use Rattle.listings.proofs.plan.fitted_plan.Goals as goal
 
 pub unreachable-requires : goal.unreachable-requires
 unreachable-requires c =
-    open_not_declined c.in-default.field-0 (open_done (view c.args.job.now) c.requires.lawful _ c.requires.saved _ _ _ c.in-default.ensures.step)
+    open_not_declined c.in_default.field-0 (open_done (view c.args.job.now) c.requires.lawful _ c.requires.saved _ _ _ c.in_default.ensures.step)
 
-pub unreachable-requires-in-default-fit-plan : goal.unreachable-requires-in-default-fit-plan
-unreachable-requires-in-default-fit-plan c =
+pub unreachable-requires-in_default-fit_plan : goal.unreachable-requires-in_default-fit_plan
+unreachable-requires-in_default-fit_plan c =
     let j = view c.args.job.now in
-    fit_not_declined c.in-default-fit-plan.field-0
-    (fit_done j c.requires.lawful _ _ _ (open_holds j c.requires.lawful _ c.requires.saved _ _ _ c.in-Ok.ensures.step) c.in-default-fit-plan.ensures)
+    fit_not_declined c.in_default-fit_plan.field-0
+    (fit_done j c.requires.lawful _ _ _ (open_holds j c.requires.lawful _ c.requires.saved _ _ _ c.in-Ok.ensures.step) c.in_default-fit_plan.ensures)
 
 pub returns : goal.returns
 returns c =
     let j = view c.args.job.now in
-    fit_holds j c.requires.lawful _ _ _ (open_holds j c.requires.lawful _ c.requires.saved _ _ _ c.in-Ok.ensures.step) c.in-Ok-fit-plan.ensures
+    fit_holds j c.requires.lawful _ _ _ (open_holds j c.requires.lawful _ c.requires.saved _ _ _ c.in-Ok.ensures.step) c.in-Ok-fit_plan.ensures

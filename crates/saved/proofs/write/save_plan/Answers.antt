@@ -9,18 +9,18 @@ pub returns-then-out-lt1 : goal.returns-then-out-lt1
 returns-then-out-lt1 c =
     record { saved = tail_none _ _ c.if-out-lt1.true; back = tt; size = plan_length (view c.args.struck.now) }
 
-pub returns-in-err-written : goal.returns-in-err-written
-returns-in-err-written c =
-    let p = err_from_is_err_and c.from-residual.result c.from-residual.ensures.1 in
+pub returns-in_err-written : goal.returns-in_err-written
+returns-in_err-written c =
+    let p = err_from_is_err_and c.from_residual.result c.from_residual.ensures.1 in
     record {
-      saved = rw (p.1, p.2) (tail_err _ c.args.out.now _ _ c.if-out-lt1.false c.in-err-written.ensures.saved);
+      saved = rw (p.1, p.2) (tail_err _ c.args.out.now _ _ c.if-out-lt1.false c.in_err-written.ensures.saved);
       back = rw p.1 tt;
       size = plan_length (view c.args.struck.now);
     }
 
 pub returns : goal.returns
 returns c =
-    let done = tail_ok _ c.args.out.now _ _ c.if-out-lt1.false c.in-ok-written.ensures.saved in
+    let done = tail_ok _ c.args.out.now _ _ c.if-out-lt1.false c.in_ok-written.ensures.saved in
     record {
       saved = done;
       back = plan_saved_back (view c.args.struck.now) c.args.out.now _ _ done;

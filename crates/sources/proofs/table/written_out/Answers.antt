@@ -7,7 +7,7 @@ pub loop-a-init : goal.loop-a-init
 loop-a-init c = none_drawn _ _ refl
 
 pub loop-a-preserved : goal.loop-a-preserved
-loop-a-preserved c = one_more _ c.loop-a.a _ c.loop-a.drawn (omega arith) c.row-of.ensures c.loop-a.invariant
+loop-a-preserved c = one_more _ c.loop-a.a _ c.loop-a.drawn (omega arith) c.row_of.ensures c.loop-a.invariant
 
 pub returns : goal.returns
 returns c =

@@ -10,30 +10,30 @@ use Rattle.sources.proofs.wall.neighbours.Goals as goal
 pub returns-then-a-count : goal.returns-then-a-count
 returns-then-a-count c = past_count c.args.columns (c.args.columns * c.args.levels) c.args.a c.if-a-count.true
 
-pub with-node-level-requires : goal.with-node-level-requires
-with-node-level-requires c = λ e.
+pub with_node-level-requires : goal.with_node-level-requires
+with_node-level-requires c = λ e.
     let l = right_below c.args.columns c.args.levels c.args.a c.requires.wide (omega arith) (ltb-true (c.args.a % c.args.columns + 1) c.args.columns e) in
     omega (arith, c.requires.few)
 
-pub overflow-add-a-2 : goal.overflow-add-a-2
-overflow-add-a-2 c = omega (arith, le_wall c.args.columns c.args.levels c.requires.high, c.requires.few)
+pub overflow_add-a-2 : goal.overflow_add-a-2
+overflow_add-a-2 c = omega (arith, le_wall c.args.columns c.args.levels c.requires.high, c.requires.few)
 
-pub overflow-add-a-3 : goal.overflow-add-a-3
-overflow-add-a-3 c = omega (arith, le_wall c.args.columns c.args.levels c.requires.high, c.requires.few)
+pub overflow_add-a-3 : goal.overflow_add-a-3
+overflow_add-a-3 c = omega (arith, le_wall c.args.columns c.args.levels c.requires.high, c.requires.few)
 
 pub returns : goal.returns
 returns c =
     let a : ℕ = c.args.a in
     let w : ℕ = c.args.columns in
     let n : ℕ = c.args.columns * c.args.levels in
-    wall_row c.args.columns c.args.levels a c.requires.wide (omega arith) c.with-node.result
-    (λ k. c.with-node.ensures k
+    wall_row c.args.columns c.args.levels a c.requires.wide (omega arith) c.with_node.result
+    (λ k. c.with_node.ensures k
     ∙ ap (λ (t : Bool). t || (ltb (a + w) n && eqb (a + w) k))
-    (c.with-node-below.ensures k
-    ∙ ap (λ (x : ℕ). bit c.with-node-level.result k || (leb w a && eqb x k)) c.saturating-sub-2.ensures
+    (c.with_node-below.ensures k
+    ∙ ap (λ (x : ℕ). bit c.with_node-level.result k || (leb w a && eqb x k)) c.saturating_sub-2.ensures
     ∙ ap (λ (t : Bool). t || (leb w a && eqb (a - w) k))
-    (c.with-node-level.ensures k
+    (c.with_node-level.ensures k
     ∙ ap (λ (t : Bool). t || (ltb (a % w + 1) w && eqb (a + 1) k))
-    (c.with-node-left.ensures k
-    ∙ ap (λ (x : ℕ). bit 0 k || (ltb 0 (a % w) && eqb x k)) c.saturating-sub.ensures
+    (c.with_node-left.ensures k
+    ∙ ap (λ (x : ℕ). bit 0 k || (ltb 0 (a % w) && eqb x k)) c.saturating_sub.ensures
     ∙ ap (λ (t : Bool). t || (ltb 0 (a % w) && eqb (a - 1) k)) (bit_none k)))))

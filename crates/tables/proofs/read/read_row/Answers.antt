@@ -10,7 +10,7 @@ made_always (Err e) p = tt
 pub returns : goal.returns
 returns c =
     let long : 8 ≤ length c.args.part.now = omega (arith, ltb-false) in
-    let word = c.from-le-bytes.ensures ∙ le_8 c.args.part.now long in
+    let word = c.from_le_bytes.ensures ∙ le_8 c.args.part.now long in
     record {
       value = rw (le-ltb (length c.args.part.now) 8 long) (c.checked_row.ensures ∙ ap (λ w. checked_row w c.args.at c.args.columns) word);
       whole = made_always c.checked_row.result long;

@@ -16,11 +16,11 @@ returns-then-at-input c =
 pub returns : goal.returns
 returns c =
     let ends : c.args.at + length (drop c.args.at c.args.input.now) ≡ length c.args.input.now = omega (arith, length-drop c.args.at c.args.input.now) in
-    let o = c.read-part.ensures in
+    let o = c.read_part.ensures in
     let v = rw (take_rest, ends) at o in
     record {
       value = v;
-      within = seen_within c.read-part.result (read_table c.args.input.now c.args.at) (length c.args.input.now) v
-          (table_within c.args.input.now c.args.at (λ i. omega (arith, c.type-inv.input i)));
+      within = seen_within c.read_part.result (read_table c.args.input.now c.args.at) (length c.args.input.now) v
+          (table_within c.args.input.now c.args.at (λ i. omega (arith, c.type_inv.input i)));
       exact = table_exact;
     }

@@ -6,14 +6,14 @@ use Rattle.tables.proofs.write.put_rows.Goals.{then-row-ne0, else-row-ne0}
 pub loop-row-init : goal.loop-row-init
 loop-row-init c = record { long = refl; place = refl; whole = refl }
 
-pub put-word-next-requires : goal.put-word-next-requires
-put-word-next-requires c = putting_room c.loop-row.invariant c.loop-row-test.true c.if-row-ne0.true c.requires
+pub put_word-next-requires : goal.put_word-next-requires
+put_word-next-requires c = putting_room c.loop-row.invariant c.loop-row-test.true c.if-row-ne0.true c.requires
 
 pub loop-row-preserved : goal.loop-row-preserved
 loop-row-preserved c =
     elim c.if-row-ne0.branch [
       | then-row-ne0 w ↦
-          simp (w.out-is, w.next_is, w.put-word-next.ensures.after, w.put-word-next.ensures.place)
+          simp (w.out-is, w.next_is, w.put_word-next.ensures.after, w.put_word-next.ensures.place)
           (putting_some c.loop-row.invariant c.loop-row-test.true w.if-row-ne0.true)
       | else-row-ne0 w ↦ simp (w.out-is, w.next_is) (putting_zero c.loop-row.invariant c.loop-row-test.true w.if-row-ne0.false)
     ]

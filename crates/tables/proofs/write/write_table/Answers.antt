@@ -7,26 +7,26 @@ use Rattle.tables.proofs.Saving.{saved_short, saved_whole, saved_back}
 use Rattle.tables.proofs.Tables.{table_exact, table_length, view_lawful}
 use Rattle.tables.proofs.write.write_table.Goals as goal
 
-pub returns-then-out-rows-len : goal.returns-then-out-rows-len
-returns-then-out-rows-len c =
+pub returns-then-out-rows_len : goal.returns-then-out-rows_len
+returns-then-out-rows_len c =
     record {
       saved = subst (λ (rows : List ℕ). Saved (table_bytes (record { columns = c.args.table.now.columns; rows = rows })) c.args.out.now c.args.out.now (Err Short)) c.rows-rows.ensures.value
-          (saved_short (record { columns = c.args.table.now.columns; rows = c.rows-rows.result.now }) c.args.out.now (omega (arith, c.rows-len.ensures.value)));
+          (saved_short (record { columns = c.args.table.now.columns; rows = c.rows-rows.result.now }) c.args.out.now (omega (arith, c.rows_len.ensures.value)));
       back = tt;
       size = table_length (view c.args.table.now);
     }
 
 pub returns : goal.returns
 returns c =
-    let a = c.put-word-next.ensures.after in
-    let p = c.put-word-next.ensures.place in
-    let b = c.put-rows.ensures.after in
-    let q = c.put-rows.ensures.place in
-    let done : Saved (table_bytes (view c.args.table.now)) c.args.out.now c.put-rows.new.out (Ok c.put-rows.result) =
-    subst (λ (rows : List ℕ). Saved (table_bytes (record { columns = c.args.table.now.columns; rows = rows })) c.args.out.now c.put-rows.new.out (Ok c.put-rows.result)) c.rows-rows.ensures.value
-    (saved_whole (record { columns = c.args.table.now.columns; rows = c.rows-rows.result.now }) c.args.out.now _ _ _ (omega (arith, c.rows-len.ensures.value)) (rw c.map-of.ensures at a) (rw p at b) (rw p at q)) in
+    let a = c.put_word-next.ensures.after in
+    let p = c.put_word-next.ensures.place in
+    let b = c.put_rows.ensures.after in
+    let q = c.put_rows.ensures.place in
+    let done : Saved (table_bytes (view c.args.table.now)) c.args.out.now c.put_rows.new.out (Ok c.put_rows.result) =
+    subst (λ (rows : List ℕ). Saved (table_bytes (record { columns = c.args.table.now.columns; rows = rows })) c.args.out.now c.put_rows.new.out (Ok c.put_rows.result)) c.rows-rows.ensures.value
+    (saved_whole (record { columns = c.args.table.now.columns; rows = c.rows-rows.result.now }) c.args.out.now _ _ _ (omega (arith, c.rows_len.ensures.value)) (rw c.map_of.ensures at a) (rw p at b) (rw p at q)) in
     record {
       saved = done;
-      back = saved_back table_bytes table_exact tt (view c.args.table.now) (view_lawful c.args.table.now) c.args.out.now c.put-rows.new.out (Ok c.put-rows.result) done;
+      back = saved_back table_bytes table_exact tt (view c.args.table.now) (view_lawful c.args.table.now) c.args.out.now c.put_rows.new.out (Ok c.put_rows.result) done;
       size = table_length (view c.args.table.now);
     }

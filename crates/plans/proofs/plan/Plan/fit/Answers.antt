@@ -3,13 +3,13 @@ use Rattle.books.proofs.Fitting.{suited_all}
 use Rattle.plans.proofs.Fitting.{fit_step, fit_inside, fit_blank}
 use Rattle.plans.proofs.plan.Plan.fit.Goals as goal
 
-pub invariant-of-self : goal.invariant-of-self
-invariant-of-self g c =
+pub invariant_of-self : goal.invariant_of-self
+invariant_of-self g c =
     let p = c.args.self.now in
     let f = g.B.Book.suiting c.args.book.now in
     let us = c.args.units.now in
     let bs = c.args.bays.now in
-    let is = suited_all f us bs c.suited-rows-self.result c.suited-rows-self.ensures (let e = c.if-units-self.false in let h = c.args.self.now.few_units in omega arith) (let e = c.if-bays-self.false in let h = c.args.self.now.few_bays in omega arith) in (
+    let is = suited_all f us bs c.suited_rows-self.result c.suited_rows-self.ensures (let e = c.if-units-self.false in let h = c.args.self.now.few_units in omega arith) (let e = c.if-bays-self.false in let h = c.args.self.now.few_bays in omega arith) in (
       p.some_units,
       (
         p.few_units,
@@ -37,5 +37,5 @@ returns g c =
     let f = g.B.Book.suiting c.args.book.now in
     let us = c.args.units.now in
     let bs = c.args.bays.now in
-    let is = suited_all f us bs c.suited-rows-self.result c.suited-rows-self.ensures (let e = c.if-units-self.false in let h = c.args.self.now.few_units in omega arith) (let e = c.if-bays-self.false in let h = c.args.self.now.few_bays in omega arith) in
+    let is = suited_all f us bs c.suited_rows-self.result c.suited_rows-self.ensures (let e = c.if-units-self.false in let h = c.args.self.now.few_units in omega arith) (let e = c.if-bays-self.false in let h = c.args.self.now.few_bays in omega arith) in
     fit_step f us bs c.args.self.now _ c.if-units-self.false c.if-bays-self.false is refl refl refl refl refl

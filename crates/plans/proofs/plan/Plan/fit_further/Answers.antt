@@ -4,10 +4,10 @@ use Rattle.books.proofs.Fitting.{suited_all}
 use Rattle.plans.proofs.Fitting.{fit_further_step, both_inside, both_blank}
 use Rattle.plans.proofs.plan.Plan.fit_further.Goals as goal
 
-pub invariant-of-self : goal.invariant-of-self
-invariant-of-self g c =
+pub invariant_of-self : goal.invariant_of-self
+invariant_of-self g c =
     let p = c.args.self.now in
-    let r = pairs c.suited-rows-suited.result in (
+    let r = pairs c.suited_rows-suited.result in (
       p.some_units,
       (
         p.few_units,
@@ -36,6 +36,6 @@ returns g c =
     let f = g.B.Book.suiting c.args.book.now in
     let us = c.args.units.now in
     let bs = c.args.bays.now in
-    let is = suited_all f us bs c.suited-rows-suited.result c.suited-rows-suited.ensures (let e = c.if-units-self.false in let h = p.few_units in omega arith) (let e = c.if-bays-self.false in let h = p.few_bays in omega arith) in
+    let is = suited_all f us bs c.suited_rows-suited.result c.suited_rows-suited.ensures (let e = c.if-units-self.false in let h = p.few_units in omega arith) (let e = c.if-bays-self.false in let h = p.few_bays in omega arith) in
     fit_further_step f us bs p _ c.if-units-self.false c.if-bays-self.false c.if-not-self.false
     (λ u b. c.common-kept.ensures u b ∙ ap (λ t. pairs p.fitted u b && t) (is u b)) refl refl refl refl refl

@@ -3,8 +3,8 @@ use lib.Bits.{and_le_l}
 use Rattle.plans.proofs.Striking.{free_step, put_inside, put_blank}
 use Rattle.plans.proofs.plan.Plan.free.Goals as goal
 
-pub invariant-of-self : goal.invariant-of-self
-invariant-of-self c =
+pub invariant_of-self : goal.invariant_of-self
+invariant_of-self c =
     let p = c.args.self.now in
     let lt : c.args.unit < length p.struck = search rules in (
       p.some_units,

@@ -45,8 +45,8 @@ unreachable-requires g c =
     let e = c.in-Err.ensures in
     not_ill p s _ _ (Some (take (length (take (p.units - 0) rows)) last)) y _ ok (e.theorem s _ _ fair.filter fair.arrangement fair.room (shape p s _ _ y)) (ap Err (sym c.in-IllShaped.is) ∙ e.answer)
 
-pub invariant-of-self : goal.invariant-of-self
-invariant-of-self g c =
+pub invariant_of-self : goal.invariant_of-self
+invariant_of-self g c =
     let p = c.args.self.now in
     let s = setting (g.A.Source.graph c.args.arrangement.now) (g.R.Source.graph c.args.room.now) c.args.strict (g.F.Filter.left c.args.filter.now) in
     let fair : Fair s = record { arrangement = g.A.Source.sound c.args.arrangement.now; room = g.R.Source.sound c.args.room.now; filter = g.met.F.Filter.lawful c.args.filter.now } in

@@ -8,14 +8,14 @@ use Rattle.plans.proofs.plan.Plan.open.Goals as goal
 
 pub started-requires : goal.started-requires
 started-requires c =
-    let f = form_in c.in-ok-table.table in
-    let bytes : Bytes c.args.bytes.now = λ i. (c.type-inv.bytes i).fits in
-    let l = (plan_opened c.args.bytes.now f bytes (sym c.in-ok-table.ensures.value)).0 in
-    let front = c.front-rows-struck.result in
+    let f = form_in c.in_ok-table.table in
+    let bytes : Bytes c.args.bytes.now = λ i. (c.type_inv.bytes i).fits in
+    let l = (plan_opened c.args.bytes.now f bytes (sym c.in_ok-table.ensures.value)).0 in
+    let front = c.front_rows-struck.result in
     let eu = ap length c.rows-units.ensures.value in
     let eb = c.columns-bays.ensures in
-    let es : (u : ℕ) → get_or c.front-rows-struck.result u 0 ≡ cond (ltb u 24) (get_or f.rows u 0) 0 =
-    λ u. c.front-rows-struck.ensures u ∙ ap (λ (r : List ℕ). cond (ltb u 24) (get_or r u 0) 0) c.rows.ensures.value in
+    let es : (u : ℕ) → get_or c.front_rows-struck.result u 0 ≡ cond (ltb u 24) (get_or f.rows u 0) 0 =
+    λ u. c.front_rows-struck.ensures u ∙ ap (λ (r : List ℕ). cond (ltb u 24) (get_or r u 0) 0) c.rows.ensures.value in
     record {
       some_units = omega (arith, eu, l.some_units);
       few_units = omega (arith, eu, l.few_units);
@@ -27,13 +27,13 @@ started-requires c =
 
 pub returns : goal.returns
 returns c =
-    let f = form_in c.in-ok-table.table in
-    let bytes : Bytes c.args.bytes.now = λ i. (c.type-inv.bytes i).fits in
-    let e = sym c.in-ok-table.ensures.value in
+    let f = form_in c.in_ok-table.table in
+    let bytes : Bytes c.args.bytes.now = λ i. (c.type_inv.bytes i).fits in
+    let e = sym c.in_ok-table.ensures.value in
     let l = (plan_opened c.args.bytes.now f bytes e).0 in
     let s = c.started.ensures in
     let struck : (u : ℕ) → get_or c.started.result.struck u 0 ≡ cond (ltb u 24) (get_or f.rows u 0) 0 =
-    λ u. ap (λ (r : List ℕ). get_or r u 0) s.struck ∙ c.front-rows-struck.ensures u ∙ ap (λ (r : List ℕ). cond (ltb u 24) (get_or r u 0) 0) c.rows.ensures.value in
+    λ u. ap (λ (r : List ℕ). get_or r u 0) s.struck ∙ c.front_rows-struck.ensures u ∙ ap (λ (r : List ℕ). cond (ltb u 24) (get_or r u 0) 0) c.rows.ensures.value in
     record {
       step = open_step c.args.self.now _ c.args.bytes.now f e l (s.units ∙ ap length c.rows-units.ensures.value) (s.bays ∙ c.columns-bays.ensures) struck s.fit s.last;
       shows = bytes;

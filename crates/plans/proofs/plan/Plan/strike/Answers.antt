@@ -5,8 +5,8 @@ use Rattle.std.proofs.lemmas.Nat.{one_shl}
 use Rattle.plans.proofs.Striking.{strike_step, put_inside, put_blank}
 use Rattle.plans.proofs.plan.Plan.strike.Goals as goal
 
-pub invariant-of-self : goal.invariant-of-self
-invariant-of-self c =
+pub invariant_of-self : goal.invariant_of-self
+invariant_of-self c =
     let p = c.args.self.now in
     let lt : c.args.unit < length p.struck = search rules in
     let l64 : c.args.bay < 64 = (let f = p.few_bays in let b = c.if-bay-self.false in omega arith) in

@@ -2,8 +2,8 @@ use Rattle.std.proofs.Common.{ℕ, ◌-◌, ◌*◌, ◌≤◌, sym, ap, subst}
 use Rattle.plans.proofs.Striking.{struck_few, tally_step}
 use Rattle.plans.proofs.plan.Plan.tally.Goals as goal
 
-pub overflow-sub-result : goal.overflow-sub-result
-overflow-sub-result c =
+pub overflow_sub-result : goal.overflow_sub-result
+overflow_sub-result c =
     let p = c.args.self.now in
     let P : ℕ → Type 0 = λ x. x ≤ p.units * p.bays in
     subst P (sym c.total.ensures) (struck_few p)

@@ -48,8 +48,8 @@ returns-in-Ok g c =
       shows = fair;
     }
 
-pub invariant-of-self-in-NoPlacement : goal.invariant-of-self-in-NoPlacement
-invariant-of-self-in-NoPlacement g c =
+pub invariant_of-self-in-NoPlacement : goal.invariant_of-self-in-NoPlacement
+invariant_of-self-in-NoPlacement g c =
     let p = c.args.self.now in
     let u = c.args.unit in
     let back : c.drop-guard-in-NoPlacement.new.self.0 ≡ p.fitted = c.drop-guard-in-NoPlacement.ensures ∙ set-set p.fitted u _ (get_or p.fitted u 0) ∙ set-get_or p.fitted u 0 in (

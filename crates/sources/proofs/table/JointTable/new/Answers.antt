@@ -3,10 +3,10 @@ use Rattle.sources.proofs.Tables.{Kept, kept_lawful, kept_lone}
 use Rattle.sources.proofs.table.JointTable.new.Goals as goal
 use Rattle.sources.proofs.table.JointTable.new.Goals.{in-Ok, in-Err}
 
-pub invariant-of-result : goal.invariant-of-result
-invariant-of-result c =
+pub invariant_of-result : goal.invariant_of-result
+invariant_of-result c =
     let P : Bor (List ℕ) × (List ℕ × Unit {0}) → Type 0 = λ t. Kept t.0.now t.1.0 in
-    elim c.match-look-over.branch [
-      | in-Ok w ↦ subst P (sym w.result-is) (kept_lawful c.args.rows.now _ _ w.in-Ok.ensures w.written-out.ensures)
+    elim c.match-look_over.branch [
+      | in-Ok w ↦ subst P (sym w.result-is) (kept_lawful c.args.rows.now _ _ w.in-Ok.ensures w.written_out.ensures)
       | in-Err w ↦ subst P (sym w.result-is) kept_lone
     ]
