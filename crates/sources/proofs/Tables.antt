@@ -45,16 +45,21 @@ pub table_column : (rows : List ℕ) (b : ℕ) → length rows ≤ 64 → get_or
 table_column rows b l h y = table_row rows b l h y ∙ ap (λ (p : ℕ → Bool). row_of (length rows) p) (fun_ext (λ a. y b a))
 
 -- what a table that is taken keeps
-abbrev pub Kept : List ℕ → List ℕ → Type 0
-Kept rows drawn =
-    (1 ≤ length rows)
-    × ((length rows ≤ 64)
-    × (((a : ℕ) → bit (get_or rows a 0) a ≡ false)
-    × (((a b : ℕ) → bit (get_or rows a 0) b ≡ bit (get_or rows b 0) a)
-    × (Written rows drawn × Unit {0}))))
+pub record Kept (rows drawn : List ℕ) : Type 0 where
+  pub some : 1 ≤ length rows
+  pub few : length rows ≤ 64
+  pub irreflexive : (a : ℕ) → bit (get_or rows a 0) a ≡ false
+  pub both : (a b : ℕ) → bit (get_or rows a 0) b ≡ bit (get_or rows b 0) a
+  pub written : Written rows drawn
 
 pub kept_lawful : (rows : List ℕ) (n : ℕ) (drawn : List ℕ) → TableLawful rows n → Written rows drawn → Kept rows drawn
-kept_lawful rows n drawn v d = (omega (arith, v.square, v.some), (omega (arith, v.square, v.few), (table_irr rows n v, (table_sym rows n v, (d, tt)))))
+kept_lawful rows n drawn v d = record {
+  some = omega (arith, v.square, v.some);
+  few = omega (arith, v.square, v.few);
+  irreflexive = table_irr rows n v;
+  both = table_sym rows n v;
+  written = d;
+}
 
 -- empty rows have nothing but empty rows
 empty_rows : (n a : ℕ) → ◌≡◌ {A = ℕ} (get_or (replicate n 0) a 0) 0
@@ -64,7 +69,13 @@ empty_rows (suc n) (suc a) = empty_rows n a
 
 -- the one row of one node without joints
 pub kept_lone : Kept (0 ∷ []) (replicate 64 0)
-kept_lone = (omega arith, (omega arith, (λ a. none a a, (λ a b. none a b ∙ sym (none b a), (λ a. empty_rows 64 a ∙ sym (empty_rows 1 a), tt)))))
+kept_lone = record {
+  some = omega arith;
+  few = omega arith;
+  irreflexive = λ a. none a a;
+  both = λ a b. none a b ∙ sym (none b a);
+  written = λ a. empty_rows 64 a ∙ sym (empty_rows 1 a);
+}
   where
     none : (a b : ℕ) → bit (get_or (0 ∷ []) a 0) b ≡ false
     none zero b = bit_none b

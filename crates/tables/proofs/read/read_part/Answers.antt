@@ -13,8 +13,8 @@ returns-in_err-count c =
     let p = err_from_is_err_and c.from_residual.result c.from_residual.ensures.1 in
     rw (p.1, p.2) (table_rows _ _ one _ (sym c.in_err-count.ensures.value))
 
-pub returns-in_default-default : goal.returns-in_default-default
-returns-in_default-default c =
+pub returns-in_default-rest : goal.returns-in_default-rest
+returns-in_default-rest c =
     let one : 1 ≤ length c.args.part.now = omega (arith, ltb-false) in
     let o = c.in_ok-count.ensures.value in
     table_short _ _ one _ (sym o) (omega (arith, ltb-true, length-drop 1 c.args.part.now, ap length (take_rest c.args.part.now 1)))

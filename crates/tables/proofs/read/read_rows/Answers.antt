@@ -22,9 +22,9 @@ loop-k-preserved c =
     elim c.if-left-eq1.branch [
       | then-left-eq1+in_ok-bits w ↦
           let rest = ap (λ r. r.now) w.rest-is ∙ take_rest c.loop-k.rest.now 8 in
-          simp (w.bits-is, w.next_is, rest) (going_stored c.requires.few_rows c.loop-k.invariant _ c.loop-k-test.true w.if-left-eq1.true w.in_ok-bits.ensures.whole (sym w.in_ok-bits.ensures.value))
+          simp (w.bits-is, w.next-is, rest) (going_stored c.requires.few_rows c.loop-k.invariant _ c.loop-k-test.true w.if-left-eq1.true w.in_ok-bits.ensures.whole (sym w.in_ok-bits.ensures.value))
       | else-left-eq1 w ↦
-          simp (w.bits-is, w.next_is, w.rest-is) (going_skip c.requires.few_rows c.loop-k.invariant c.loop-k-test.true (omega (arith, w.if-left-eq1.false)))
+          simp (w.bits-is, w.next-is, w.rest-is) (going_skip c.requires.few_rows c.loop-k.invariant c.loop-k-test.true (omega (arith, w.if-left-eq1.false)))
     ]
 
 pub returns : goal.returns

@@ -13,9 +13,9 @@ pub loop-row-preserved : goal.loop-row-preserved
 loop-row-preserved c =
     elim c.if-row-ne0.branch [
       | then-row-ne0 w ↦
-          simp (w.out-is, w.next_is, w.put_word-next.ensures.after, w.put_word-next.ensures.place)
+          simp (w.out-is, w.next-is, w.put_word-next.ensures.after, w.put_word-next.ensures.place)
           (putting_some c.loop-row.invariant c.loop-row-test.true w.if-row-ne0.true)
-      | else-row-ne0 w ↦ simp (w.out-is, w.next_is) (putting_zero c.loop-row.invariant c.loop-row-test.true w.if-row-ne0.false)
+      | else-row-ne0 w ↦ simp (w.out-is, w.next-is) (putting_zero c.loop-row.invariant c.loop-row-test.true w.if-row-ne0.false)
     ]
 
 pub returns : goal.returns
