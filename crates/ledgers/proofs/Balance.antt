@@ -1,7 +1,7 @@
 -- How many pairs are struck, against the strikes and frees of the calls. Assumes nothing.
 use Rattle.std.proofs.Common.{◌≡◌, ℕ, zero, suc, ◌+◌, ◌-◌, ◌*◌, ◌<◌, Bool, true, false, cond, not, ◌&&◌, ◌||◌, eqb, ◌⊎◌, List, [], ◌∷◌, Ok, Err, Result, sym, refl, ap, ◌∙◌, ap₂, ⊎_elim, suc-mul, arith}
 use mathlib.Core.Path.{fun_ext}
-use mathlib.Core.Bool.{or_true, or_false, and_true}
+use mathlib.Core.Bool.{or-true, or-false, and-true}
 use Rattle.std.proofs.lemmas.Bool.{cases_eq, eq-eqb, ne_eqb}
 use Rattle.refusals.specs.declared.Reason.TheVariants as R
 use Rattle.graphs.specs.Rows.{Pairs}
@@ -84,13 +84,13 @@ balanced_on l k (strike u b) v e =
     let p = pair_in l u b _ v in
     let out = (keeps_rule R.Standing (l.struck u b) accepted p.2).0 in
     let more = many_more l.units l.bays l.struck (λ v c. l.struck v c || one_pair u b v c) u b p.0 p.1 out
-    (ap (λ t. l.struck u b || t) (here u b) ∙ or_true (l.struck u b)) (λ v c ne. ap (λ t. l.struck v c || t) (elsewhere u b v c ne) ∙ or_false (l.struck v c)) in
+    (ap (λ t. l.struck u b || t) (here u b) ∙ or-true (l.struck u b)) (λ v c ne. ap (λ t. l.struck v c || t) (elsewhere u b v c ne) ∙ or-false (l.struck v c)) in
     omega (arith, more, e)
 balanced_on l k (free u b) v e =
     let p = pair_in l u b _ v in
     let held = not_false _ (keeps_rule R.Standing (not (l.struck u b)) accepted p.2).0 in
     let more = many_more l.units l.bays (λ v c. l.struck v c && not (one_pair u b v c)) l.struck u b p.0 p.1
-    (ap₂ (λ s t. s && not t) held (here u b)) held (λ v c ne. sym (ap (λ t. l.struck v c && not t) (elsewhere u b v c ne) ∙ and_true (l.struck v c))) in
+    (ap₂ (λ s t. s && not t) held (here u b)) held (λ v c ne. sym (ap (λ t. l.struck v c && not t) (elsewhere u b v c ne) ∙ and-true (l.struck v c))) in
     omega (arith, more, e)
 balanced_on l k (fit x) v e = e
 balanced_on l k (fit_further x) v e = e

@@ -1,7 +1,7 @@
 -- Pairs struck, freed and counted. Assumes nothing.
 use Rattle.std.proofs.Common.{◌≡◌, ℕ, zero, suc, ◌+◌, ◌-◌, ◌*◌, ◌/◌, ◌%◌, ◌^◌, ◌<◌, ◌≤◌, Bool, true, false, cond, not, ◌&&◌, ◌||◌, eqb, ◌⊎◌, List, [], ◌∷◌, length, get_or, set, sum_by, sym, refl, ap, ◌∙◌, subst, ap₂, ⊎_elim, suc-mul, pow-suc, arith}
 use mathlib.Core.Path.{fun_ext}
-use mathlib.Core.Bool.{or_false, and_true}
+use mathlib.Core.Bool.{or-false, and-true}
 use lib.Bits.{bit_or, bit_and}
 use lib.Count.{ones, ones-le, ones_step}
 use Rattle.std.proofs.lemmas.List.Sums.{sum_by-cons}
@@ -59,7 +59,7 @@ strike_step p q u b hu hb lt out eu eb es ef er el =
     let l64 : b < 64 = (let f = p.few_bays in omega arith) in
     let row = get_or p.struck u 0 in
     let now : pairs q.struck ≡ (λ v c. pairs p.struck v c || one_pair u b v c) =
-    ap pairs es ∙ changed p.struck u b (bit_or row (one_bay b)) (λ s t. s || t) lt or_false
+    ap pairs es ∙ changed p.struck u b (bit_or row (one_bay b)) (λ s t. s || t) lt or-false
     (λ c. bit_of_or row (one_bay b) c ∙ ap (λ y. bit row c || y) (ap (λ x. bit x c) (one_shl b 64 l64) ∙ bit_one b c)) in
     done_step p q (strike u b)
     (cond-false _ _ _ (inside_is (view p) u b hu hb) ∙ cond-false _ _ _ out)
@@ -74,7 +74,7 @@ free_step p q u b hu hb lt low held eu eb es ef er el =
     let l64 : b < 64 = (let f = p.few_bays in omega arith) in
     let row = get_or p.struck u 0 in
     let now : pairs q.struck ≡ (λ v c. pairs p.struck v c && not (one_pair u b v c)) =
-    ap pairs es ∙ changed p.struck u b (bit_and row (18446744073709551615 - one_bay b)) (λ s t. s && not t) lt and_true
+    ap pairs es ∙ changed p.struck u b (bit_and row (18446744073709551615 - one_bay b)) (λ s t. s && not t) lt and-true
     (λ c. bit_without row (one_bay b) c low (omega arith) ∙ ap (λ y. bit row c && not y) (ap (λ x. bit x c) (one_shl b 64 l64) ∙ bit_one b c)) in
     done_step p q (free u b)
     (cond-false _ _ _ (inside_is (view p) u b hu hb) ∙ cond-false _ _ _ (not_from_true _ held))

@@ -5,7 +5,7 @@ use Rattle.std.proofs.lemmas.Nat.{one_shl}
 use Rattle.std.proofs.lemmas.List.{length-set, get_or-set_same, get_or-set_other}
 use Rattle.std.proofs.lemmas.List.FromFn.{length-map-range_with_len, get_or-map-range_with_len}
 use Rattle.std.proofs.lemmas.List.Edits.{fill_by_more}
-use Rattle.std.proofs.lemmas.Bool.{eq-eqb, ne_eqb, eqb-true, lt-ltb, le-ltb, cond-true, cond-false, cases_lt, cases_eq, cases_order, both_ways, and_parts, or_parts, not_false}
+use Rattle.std.proofs.lemmas.Bool.{eq-eqb, ne_eqb, eqb-true, lt-ltb, le-ltb, cond-true, cond-false, cases_lt, cases_eq, cases_order, both_ways, and_parts, or_parts, not-false}
 use Rattle.graphs.specs.Rows.{bit, row_of}
 use Rattle.graphs.specs.Graph.{Graph}
 use Rattle.graphs.proofs.Bits.{bit_of_and, bit_of_or, bit_bit, bit_bit_only}
@@ -89,7 +89,7 @@ narrows_more f rows v next changed kept marked lv h is m =
       todo = λ k lk. get_or-set_other next v k kept 0 (λ z. omega arith) ∙ h.todo k (omega arith);
       same = λ k n. elim (cases_eq k v) [
         | inl z ↦ ap (λ (j : ℕ). get_or (set next v kept) j 0) z ∙ get_or-set_same next v kept 0 l
-            ∙ eqb-true kept (get_or rows v 0) (not_false _ ((m k n).1 z)) ∙ ap (λ (j : ℕ). get_or rows j 0) (sym z)
+            ∙ eqb-true kept (get_or rows v 0) (not-false _ ((m k n).1 z)) ∙ ap (λ (j : ℕ). get_or rows j 0) (sym z)
         | inr ne ↦ get_or-set_other next v k kept 0 ne ∙ h.same k (m k n).0
       ];
     }

@@ -3,7 +3,7 @@ use Rattle.std.proofs.Common.{◌≡◌, ℕ, zero, suc, ◌+◌, ◌^◌, ◌<�
 use lib.Count.{count_trailing_zeros}
 use lib.ListN.{length-map}
 use Rattle.std.proofs.lemmas.List.{ext_get_or, get_or-map}
-use Rattle.std.proofs.lemmas.Bool.{eqb-true, eqb-false, eq-eqb, ltb-true, ltb-false, cases_lt, cases_eq, cases_order, cases_Bool, both_ways, and_parts, and_cases, or_cases, or_left, or_right, and_from, not-true, not_false, lt-ltb}
+use Rattle.std.proofs.lemmas.Bool.{eqb-true, eqb-false, eq-eqb, ltb-true, ltb-false, cases_lt, cases_eq, cases_order, cases_Bool, both_ways, and_parts, and_cases, or_cases, or_left, or_right, and_from, not-true, not-false, lt-ltb}
 use Rattle.graphs.specs.Rows.{bit, row_of}
 use Rattle.graphs.specs.Graph.{Sound}
 use Rattle.graphs.proofs.Bits.{bit_of_and, bit_bit, bit_bit_only, bit_none, bit_lowest_among}
@@ -202,7 +202,7 @@ module _ (w : Setting) (last : List ℕ) (lawful : Lawful w.filter) (gu : Sound 
         let l : ℕ = get_or last u 0 in
         elim (and_cases (bit (get_or rows u 0) b) _ off) [
           | inl z ↦ both_ways _ z held
-          | inr z ↦ (let t = and_parts tied (ltb b l || eqb b l && eqb later 0) (not_false _ z) in
+          | inr z ↦ (let t = and_parts tied (ltb b l || eqb b l && eqb later 0) (not-false _ z) in
               let B = h.after t.0 in
               let same_below : (k : ℕ) → k < u → get_or q k 0 ≡ get_or last k 0 = λ k lk. st.level t.0 k (get_or q k 0) lk (h.within k (omega arith)) in
               elim (cases_order B.unit u) [
