@@ -4,31 +4,17 @@ use Rattle.books.proofs.Fitting.{suited_all}
 use Rattle.plans.proofs.Fitting.{fit_further_step, both_inside, both_blank}
 use Rattle.plans.proofs.plan.Plan.fit_further.Goals as goal
 
-pub invariant_of-self : goal.invariant_of-self
-invariant_of-self g c =
+pub invariant_of-self-clause-fitted_inside : goal.invariant_of-self-clause-fitted_inside
+invariant_of-self-clause-fitted_inside g c =
     let p = c.args.self.now in
-    let r = pairs c.suited_rows-suited.result in (
-      p.some_units,
-      (
-        p.few_units,
-        (
-          p.some_bays,
-          (
-            p.few_bays,
-            (
-              p.inside,
-              (
-                p.blank,
-                (
-                  both_inside p.bays p.fitted _ r p.fitted_inside c.common-kept.ensures,
-                  (both_blank p.units p.fitted _ r p.fitted_blank c.common-kept.ensures, (p.last_low, (p.last_blank, tt))),
-                ),
-              ),
-            ),
-          ),
-        ),
-      ),
-    )
+    let r = pairs c.suited_rows-suited.result in
+    both_inside p.bays p.fitted _ r p.fitted_inside c.common-kept.ensures
+
+pub invariant_of-self-clause-fitted_blank : goal.invariant_of-self-clause-fitted_blank
+invariant_of-self-clause-fitted_blank g c =
+    let p = c.args.self.now in
+    let r = pairs c.suited_rows-suited.result in
+    both_blank p.units p.fitted _ r p.fitted_blank c.common-kept.ensures
 
 pub returns : goal.returns
 returns g c =

@@ -3,25 +3,16 @@ use lib.Bits.{and_le_l}
 use Rattle.plans.proofs.Striking.{free_step, put_inside, put_blank}
 use Rattle.plans.proofs.plan.Plan.free.Goals as goal
 
-pub invariant_of-self : goal.invariant_of-self
-invariant_of-self c =
+pub invariant_of-self-clause-inside : goal.invariant_of-self-clause-inside
+invariant_of-self-clause-inside c =
     let p = c.args.self.now in
-    let lt : c.args.unit < length p.struck = search rules in (
-      p.some_units,
-      (
-        p.few_units,
-        (
-          p.some_bays,
-          (
-            p.few_bays,
-            (
-              put_inside p.bays p.struck _ _ lt (omega (arith, and_le_l (get_or p.struck c.args.unit 0) (18446744073709551615 - (1 * 2 ^ c.args.bay) % 18446744073709551616), p.inside c.args.unit)) p.inside,
-              (put_blank p.units p.struck _ _ c.if-unit-self.false p.blank, (p.fitted_inside, (p.fitted_blank, (p.last_low, (p.last_blank, tt))))),
-            ),
-          ),
-        ),
-      ),
-    )
+    let lt : c.args.unit < length p.struck = search rules in
+    put_inside p.bays p.struck _ _ lt (omega (arith, and_le_l (get_or p.struck c.args.unit 0) (18446744073709551615 - (1 * 2 ^ c.args.bay) % 18446744073709551616), p.inside c.args.unit)) p.inside
+
+pub invariant_of-self-clause-blank : goal.invariant_of-self-clause-blank
+invariant_of-self-clause-blank c =
+    let p = c.args.self.now in
+    put_blank p.units p.struck _ _ c.if-unit-self.false p.blank
 
 pub returns : goal.returns
 returns c =

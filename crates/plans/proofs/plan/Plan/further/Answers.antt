@@ -57,10 +57,20 @@ invariant_of-self g c =
     let y = open_ready p s rows long c.if-not-self.false ea er c.without-rows.ensures in
     let last = c.in-Some.last in
     let ok = further_shape p s _ _ y in
-    let at : Some (take (length (take (p.units - 0) rows)) last) ≡ shortened p.units p.last = ap (λ k. Some (take k last)) y.stands.long ∙ sym (ap (shortened p.units) c.in-Some.is) in
     let e = c.in-Ok.ensures in
     let x = got p s _ _ (Some (take (length (take (p.units - 0) rows)) last)) y _ ok (e.theorem s _ _ fair.filter fair.arrangement fair.room (shape p s _ _ y)) c.in-Ok.find e.answer in
-    (p.some_units, (p.few_units, (p.some_bays, (p.few_bays, (p.inside, (p.blank, (p.fitted_inside, (p.fitted_blank, (x.low, (x.blank, tt))))))))))
+    record {
+      some_units = p.some_units;
+      few_units = p.few_units;
+      some_bays = p.some_bays;
+      few_bays = p.few_bays;
+      inside = p.inside;
+      blank = p.blank;
+      fitted_inside = p.fitted_inside;
+      fitted_blank = p.fitted_blank;
+      last_low = x.low;
+      last_blank = x.blank;
+    }
 
 pub returns-in-Ok : goal.returns-in-Ok
 returns-in-Ok g c =

@@ -35,7 +35,18 @@ invariant_of-self g c =
     let ok = shape p s _ _ y in
     let e = c.in-Ok.ensures in
     let x = got p s _ _ None y _ ok (e.theorem s _ fair.filter fair.arrangement fair.room ok) c.in-Ok.find e.answer in
-    (p.some_units, (p.few_units, (p.some_bays, (p.few_bays, (p.inside, (p.blank, (p.fitted_inside, (p.fitted_blank, (x.low, (x.blank, tt))))))))))
+    record {
+      some_units = p.some_units;
+      few_units = p.few_units;
+      some_bays = p.some_bays;
+      few_bays = p.few_bays;
+      inside = p.inside;
+      blank = p.blank;
+      fitted_inside = p.fitted_inside;
+      fitted_blank = p.fitted_blank;
+      last_low = x.low;
+      last_blank = x.blank;
+    }
 
 pub returns-in-Ok : goal.returns-in-Ok
 returns-in-Ok g c =

@@ -5,27 +5,18 @@ use Rattle.std.proofs.lemmas.Nat.{one_shl}
 use Rattle.plans.proofs.Striking.{strike_step, put_inside, put_blank}
 use Rattle.plans.proofs.plan.Plan.strike.Goals as goal
 
-pub invariant_of-self : goal.invariant_of-self
-invariant_of-self c =
+pub invariant_of-self-clause-inside : goal.invariant_of-self-clause-inside
+invariant_of-self-clause-inside c =
     let p = c.args.self.now in
     let lt : c.args.unit < length p.struck = search rules in
     let l64 : c.args.bay < 64 = (let f = p.few_bays in let b = c.if-bay-self.false in omega arith) in
-    let P : ℕ → Type 0 = λ x. x < 2 ^ p.bays in (
-      p.some_units,
-      (
-        p.few_units,
-        (
-          p.some_bays,
-          (
-            p.few_bays,
-            (
-              put_inside p.bays p.struck _ _ lt (or_lt p.bays _ _ (p.inside c.args.unit) (subst P (sym (one_shl c.args.bay 64 l64)) (pow-lt c.if-bay-self.false))) p.inside,
-              (put_blank p.units p.struck _ _ c.if-unit-self.false p.blank, (p.fitted_inside, (p.fitted_blank, (p.last_low, (p.last_blank, tt))))),
-            ),
-          ),
-        ),
-      ),
-    )
+    let P : ℕ → Type 0 = λ x. x < 2 ^ p.bays in
+    put_inside p.bays p.struck _ _ lt (or_lt p.bays _ _ (p.inside c.args.unit) (subst P (sym (one_shl c.args.bay 64 l64)) (pow-lt c.if-bay-self.false))) p.inside
+
+pub invariant_of-self-clause-blank : goal.invariant_of-self-clause-blank
+invariant_of-self-clause-blank c =
+    let p = c.args.self.now in
+    put_blank p.units p.struck _ _ c.if-unit-self.false p.blank
 
 pub returns : goal.returns
 returns c =

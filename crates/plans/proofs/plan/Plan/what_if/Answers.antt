@@ -48,29 +48,19 @@ returns-in-Ok g c =
       shows = fair;
     }
 
-pub invariant_of-self-in-NoPlacement : goal.invariant_of-self-in-NoPlacement
-invariant_of-self-in-NoPlacement g c =
+pub invariant_of-self-in-NoPlacement-clause-fitted_inside : goal.invariant_of-self-in-NoPlacement-clause-fitted_inside
+invariant_of-self-in-NoPlacement-clause-fitted_inside g c =
     let p = c.args.self.now in
     let u = c.args.unit in
-    let back : c.drop-guard-in-NoPlacement.new.self.0 ≡ p.fitted = c.drop-guard-in-NoPlacement.ensures ∙ set-set p.fitted u _ (get_or p.fitted u 0) ∙ set-get_or p.fitted u 0 in (
-      p.some_units,
-      (
-        p.few_units,
-        (
-          p.some_bays,
-          (
-            p.few_bays,
-            (
-              p.inside,
-              (
-                p.blank,
-                (subst (λ r. Inside p.bays r) (sym back) p.fitted_inside, (subst (λ r. Blank p.units r) (sym back) p.fitted_blank, (p.last_low, (p.last_blank, tt)))),
-              ),
-            ),
-          ),
-        ),
-      ),
-    )
+    let back : c.drop-guard-in-NoPlacement.new.self.0 ≡ p.fitted = c.drop-guard-in-NoPlacement.ensures ∙ set-set p.fitted u _ (get_or p.fitted u 0) ∙ set-get_or p.fitted u 0 in
+    subst (λ r. Inside p.bays r) (sym back) p.fitted_inside
+
+pub invariant_of-self-in-NoPlacement-clause-fitted_blank : goal.invariant_of-self-in-NoPlacement-clause-fitted_blank
+invariant_of-self-in-NoPlacement-clause-fitted_blank g c =
+    let p = c.args.self.now in
+    let u = c.args.unit in
+    let back : c.drop-guard-in-NoPlacement.new.self.0 ≡ p.fitted = c.drop-guard-in-NoPlacement.ensures ∙ set-set p.fitted u _ (get_or p.fitted u 0) ∙ set-get_or p.fitted u 0 in
+    subst (λ r. Blank p.units r) (sym back) p.fitted_blank
 
 pub returns-in-NoPlacement : goal.returns-in-NoPlacement
 returns-in-NoPlacement g c =
