@@ -1,6 +1,6 @@
 -- The test by degrees passes on every pair of every placement. Assumes nothing.
-use Rattle.std.specs.Prelude.{◌≡◌, ℕ, ◌-◌, Bool, true, not, ◌||◌, List, nat_le, slice_index}
-use Rattle.std.proofs.Common.{sym, ap, subst, ◌∙◌, inl, inr, arith}
+use Rattle.std.specs.Prelude.{◌-◌, Bool, not, ◌||◌, nat_le, slice_index}
+use Rattle.std.proofs.Common.{subst, inl, inr, arith}
 use Rattle.std.proofs.lemmas.Bool.{cases_Bool, and_from, not_from_false, le-leb, or_right, or_left}
 use Rattle.placements.specs.Placement.{Placement}
 use Rattle.placements.proofs.Counting.{placement_degree, strict_degree}

@@ -1,5 +1,5 @@
 -- Small rooms worked out. Assumes nothing.
-use Rattle.std.specs.Prelude.{◌≡◌, ℕ, true, false, List, [], ◌∷◌}
+use Rattle.std.specs.Prelude.{◌≡◌, true, false, [], ◌∷◌}
 use Rattle.graphs.specs.Graph.{Graph}
 use Rattle.graphs.specs.WallGrid.{wall_graph}
 use Rattle.degree.specs.Degree.{degree_meaning}

@@ -1,5 +1,5 @@
 -- Filters by a test on pairs: they are lawful where the test passes on every pair of every placement. Assumes nothing.
-use Rattle.std.proofs.Common.{◌≡◌, ℕ, zero, suc, ◌+◌, ◌<◌, ◌≤◌, Bool, true, false, cond, ◌&&◌, ltb, ◌⊎◌, List, [], ◌∷◌, length, get_or, set, sym, refl, ap, ◌∙◌, inl, inr, arith, length-set, get_or-set_other, get_or-set_same}
+use Rattle.std.proofs.Common.{◌≡◌, ℕ, zero, suc, ◌+◌, ◌<◌, ◌≤◌, Bool, true, false, ◌&&◌, ltb, List, [], ◌∷◌, length, get_or, set, sym, refl, ap, ◌∙◌, inl, inr, arith, length-set, get_or-set_other, get_or-set_same}
 use lib.Count.{ones}
 use Rattle.std.proofs.lemmas.List.{ext_get_or}
 use Rattle.std.proofs.lemmas.Bool.{cases_eq, cases_Bool, cond-true, cond-false, and_parts, and_from, and_right, lt-ltb}
@@ -8,7 +8,7 @@ use Rattle.graphs.specs.Graph.{Graph, Sound}
 use Rattle.graphs.proofs.Rows.{row_is}
 use Rattle.graphs.proofs.PairSets.{rows_length, pairs_rows}
 use Rattle.placements.specs.Placement.{Placement}
-use Rattle.filters.specs.Filter.{shaped, pair_count, Lawful, Inside, CutFrom, Resumes}
+use Rattle.filters.specs.Filter.{shaped, pair_count, Lawful, Inside, Resumes}
 use Rattle.filters.specs.Kept.{PairTest, kept_rows}
 use Rattle.filters.specs.Counting.{ones_zero}
 use Rattle.filters.specs.Shapes.{Shape, shape_of, shaped_kept}

@@ -1,12 +1,12 @@
 -- How many pairs rows hold, and how many of them are empty. Assumes nothing.
-use Rattle.std.specs.Prelude.{◌≡◌, ℕ, zero, suc, ◌+◌, ◌-◌, ◌*◌, ◌/◌, ◌%◌, ◌^◌, ◌<◌, ◌≤◌, Bool, true, false, cond, not, ◌&&◌, ◌||◌, List, [], ◌∷◌, ◌++◌, length, take, ◌==◌, count_ones, nat_lt, slice_index, refl}
-use Rattle.std.proofs.Common.{sym, ap, subst, ◌∙◌, ⊎_elim, zero-le, mul-suc, arith, pow_mono, pow_pos, pow-add, shr-shr}
+use Rattle.std.specs.Prelude.{◌≡◌, ℕ, zero, suc, ◌+◌, ◌*◌, ◌/◌, ◌%◌, ◌^◌, ◌<◌, ◌≤◌, true, cond, List, [], ◌∷◌, ◌++◌, length, take, ◌==◌, count_ones, nat_lt, slice_index}
+use Rattle.std.proofs.Common.{sym, ap, ◌∙◌, ⊎_elim, zero-le, arith}
 use Rattle.std.proofs.Math.Nat.{pow-succ'}
 use Rattle.std.specs.Int.Count.{ones_step}
 use Rattle.std.proofs.lemmas.Nat.{ones-le}
-use Rattle.std.proofs.lemmas.Bool.{ltb-true, leb-true, eqb-true, eqb-false, eq-eqb, and_parts, cases_Bool}
+use Rattle.std.proofs.lemmas.Bool.{ltb-true, eqb-true, eqb-false, and_parts, cases_Bool}
 use Rattle.std.proofs.lemmas.List.{take_more}
-use Rattle.graphs.specs.Rows.{bit, pairs}
+use Rattle.graphs.specs.Rows.{bit}
 use Rattle.graphs.proofs.Bits.{bit_zero, bit_suc, bit_below, bits_below}
 use Rattle.filters.specs.Filter.{all_below, pair_count, empty_count, Inside}
 

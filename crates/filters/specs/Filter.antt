@@ -1,5 +1,5 @@
 -- What a filter of the bays is, and what each must show. Assumes nothing.
-use Rattle.std.specs.Prelude.{◌≡◌, ℕ, ◌+◌, ◌^◌, ◌<◌, Bool, true, false, cond, ◌&&◌, List, [], ◌∷◌, length, ◌==◌, count_ones, nat_le, nat_lt, slice_index}
+use Rattle.std.specs.Prelude.{◌≡◌, ℕ, ◌+◌, ◌^◌, Bool, true, false, cond, ◌&&◌, List, [], ◌∷◌, length, ◌==◌, count_ones, nat_le, nat_lt, slice_index}
 use Rattle.graphs.specs.Rows.{bit, pairs}
 use Rattle.graphs.specs.Graph.{Graph, Sound}
 use Rattle.placements.specs.Placement.{Placement, Within}

@@ -1,5 +1,5 @@
 -- Filters by a test on pairs. Assumes nothing.
-use Rattle.std.specs.Prelude.{ℕ, Bool, cond, ◌&&◌, List}
+use Rattle.std.specs.Prelude.{Bool, cond, ◌&&◌}
 use Rattle.graphs.specs.Rows.{Pairs, pairs, rows_of}
 use Rattle.graphs.specs.Graph.{Graph}
 use Rattle.filters.specs.Filter.{Meaning, shaped}

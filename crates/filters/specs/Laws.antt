@@ -1,5 +1,5 @@
 -- Filters made of others: they are lawful, and what their code counts. Assumes nothing.
-use Rattle.std.specs.Prelude.{◌≡◌, ℕ, zero, suc, ◌+◌, ◌-◌, ◌*◌, ◌^◌, ◌<◌, ◌≤◌, Bool, true, false, ◌⊎◌, List, [], ◌∷◌, length, ◌==◌, ◌≢◌, slice_index, refl}
+use Rattle.std.specs.Prelude.{◌≡◌, ℕ, zero, suc, ◌+◌, ◌*◌, ◌^◌, ◌<◌, ◌≤◌, Bool, true, false, List, [], ◌∷◌, length, ◌==◌, ◌≢◌, slice_index, refl}
 use Rattle.std.proofs.Common.{sym, ap, subst, ◌∙◌, inl, inr, zero-le, arith}
 use Rattle.std.proofs.lemmas.Nat.{ones-le}
 use Rattle.std.proofs.lemmas.Bool.{eqb-true, eqb-false, eq-eqb, ne_eqb, cases_Bool, cases_lt, cond-true, cond-false, cond_both, both_ways}
@@ -10,7 +10,7 @@ use Rattle.placements.specs.Placement.{Within}
 use Rattle.placements.proofs.Masks.{bit_full}
 use Rattle.filters.specs.Filter.{shaped, pair_count, Lawful, Meaning, Inside, CutFrom, Resumes}
 use Rattle.filters.specs.Composed.{then_meaning, repeat, repeat_meaning, after_turns, Settles}
-use Rattle.filters.specs.Shapes.{Shape, shape_of, shaped_kept, shaped_few, taken_less, unchanged}
+use Rattle.filters.specs.Shapes.{shape_of, shaped_kept, shaped_few, taken_less, unchanged}
 
 -- two filters one after the other
 

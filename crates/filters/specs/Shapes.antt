@@ -1,10 +1,9 @@
 -- Rows of the shape that filters work on. Assumes nothing.
-use Rattle.std.specs.Prelude.{◌≡◌, ℕ, zero, suc, ◌+◌, ◌-◌, ◌*◌, ◌^◌, ◌<◌, ◌≤◌, Bool, true, false, ◌&&◌, ◌⊎◌, List, [], ◌∷◌, length, ◌==◌, nat_le, nat_lt, slice_index, refl}
+use Rattle.std.specs.Prelude.{◌≡◌, ℕ, zero, suc, ◌+◌, ◌-◌, ◌^◌, ◌<◌, ◌≤◌, Bool, true, false, ◌&&◌, List, [], ◌∷◌, length, ◌==◌, nat_le, nat_lt, slice_index, refl}
 use Rattle.std.proofs.Common.{sym, ap, ◌∙◌, inl, inr, ⊎_elim, mul-le-mul_right, arith, pow_pos, pow_mono}
-use Rattle.std.specs.Int.Count.{ones}
 use Rattle.std.proofs.lemmas.List.{get_or_past}
 use Rattle.std.proofs.lemmas.Bool.{both_ways, ltb-true, leb-true, eqb-true, lt-ltb, le-leb, eq-eqb, cases_lt, cases_Bool, and_parts, and_from}
-use Rattle.graphs.specs.Rows.{bit, pairs}
+use Rattle.graphs.specs.Rows.{bit}
 use Rattle.graphs.specs.Graph.{Graph, Sound}
 use Rattle.graphs.proofs.Bits.{bit_none, bit_below, bits_below}
 use Rattle.filters.specs.Filter.{shaped, all_below, pair_count, Inside, Lawful, Meaning}

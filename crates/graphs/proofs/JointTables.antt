@@ -1,9 +1,9 @@
 -- The graph of a joint table is sound and symmetric where the table is lawful. Assumes nothing.
-use Rattle.std.proofs.Common.{◌≡◌, ℕ, ◌^◌, ◌<◌, ◌≤◌, Bool, false, ◌&&◌, ltb, List, length, get_or, sym, ap, ◌∙◌, inl, inr, ⊎_elim, arith}
+use Rattle.std.proofs.Common.{◌≡◌, ℕ, ◌<◌, ◌≤◌, Bool, false, ◌&&◌, List, length, get_or, sym, ap, ◌∙◌, inl, inr, ⊎_elim, arith}
 use Rattle.std.proofs.lemmas.List.{get_or_past}
 use Rattle.std.proofs.lemmas.Bool.{cases_lt, le-ltb, lt-ltb}
 use Rattle.graphs.specs.Rows.{bit, row_of}
-use Rattle.graphs.specs.Graph.{Graph, Sound, Symmetric}
+use Rattle.graphs.specs.Graph.{Sound, Symmetric}
 use Rattle.graphs.specs.JointTable.{table_graph, TableLawful}
 use Rattle.graphs.proofs.Bits.{bit_past, bit_none}
 use Rattle.graphs.proofs.Rows.{is_row_of}

@@ -5,7 +5,7 @@ use lib.Bits.{bit_and}
 use Rattle.std.proofs.lemmas.List.{get_or_past, get_or-set_same, get_or-set_other, length-set}
 use Rattle.std.proofs.lemmas.Bool.{cases_eq, cases_lt, lt-ltb, le-ltb}
 use Rattle.std.proofs.lemmas.Bool.Decides.{nat_tests}
-use Rattle.graphs.specs.Rows.{bit, row_of, Pairs, pairs, rows_of}
+use Rattle.graphs.specs.Rows.{bit, Pairs, pairs, rows_of}
 use Rattle.graphs.proofs.Bits.{bit_of_and, bit_none, bit_past, bit_not, bits_below}
 use Rattle.graphs.proofs.Rows.{bit_row_of, row_from_lt, row_is}
 

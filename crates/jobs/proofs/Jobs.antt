@@ -1,5 +1,5 @@
 -- Jobs are an exact part. Assumes nothing.
-use Rattle.std.proofs.Common.{◌≡◌, ℕ, zero, suc, ◌+◌, ◌*◌, ◌<◌, ◌≤◌, Bool, true, cond, ◌&&◌, eqb, leb, List, [], ◌∷◌, ◌++◌, length, get_or, take, sym, refl, ap, ◌∙◌, ap₂, arith}
+use Rattle.std.proofs.Common.{◌≡◌, ℕ, zero, suc, ◌+◌, ◌*◌, ◌<◌, true, leb, List, [], ◌∷◌, ◌++◌, length, get_or, take, sym, refl, ap, ◌∙◌, arith}
 use Rattle.std.proofs.lemmas.List.{take_all}
 use Rattle.std.proofs.lemmas.Bool.{and_from, and_parts, eq-eqb, eqb-true, false≢true, leb-true}
 use Rattle.sources.specs.Faults.{fault_at}
@@ -7,7 +7,7 @@ use Rattle.tables.specs.Bytes.{Bytes, bytes_of, from_bytes}
 use Rattle.tables.specs.Form.{Form, Lawful}
 use Rattle.tables.specs.Parts.{Anything, Nothing, Exact}
 use Rattle.tables.specs.Written.{table_bytes}
-use Rattle.tables.proofs.Accepted.{length_bytes_of, bytes_of_value, value_of_bytes}
+use Rattle.tables.proofs.Accepted.{bytes_of_value}
 use Rattle.tables.proofs.Parts.{after_exact, checked_exact, inside_exact, some_bytes_exact, turned_exact}
 use Rattle.tables.proofs.Tables.{table_exact}
 use Rattle.saved.specs.Plan.{PlanLawful, plan_bytes}
@@ -19,8 +19,8 @@ use Rattle.jobs.specs.declared.head.Edition.{Edition}
 use Rattle.jobs.specs.declared.head.Edition.TheVariants.{One, Two}
 use Rattle.jobs.specs.Joints.{joint_test}
 use Rattle.jobs.specs.Head.{mode_byte, known_mode, mode_of, edition_number, known_edition, edition_of}
-use Rattle.jobs.specs.Form.{JobForm, JobLawful, JointsLawful, KindsLawful, HeightsLawful, StruckLawful, heights_bytes, heights_of, job_bytes}
-use Rattle.jobs.specs.Read.{mode_part, edition_part, head_part, joints_part, kinds_part, heights_part, cards_part, same_sizes, struck_part, rest_part, room_part, Parts, parts, formed, job_part}
+use Rattle.jobs.specs.Form.{JobForm, JobLawful, JointsLawful, HeightsLawful, StruckLawful, heights_bytes, heights_of, job_bytes}
+use Rattle.jobs.specs.Read.{mode_part, edition_part, head_part, joints_part, heights_part, cards_part, same_sizes, struck_part, rest_part, room_part, Parts, parts, formed, job_part}
 use Rattle.jobs.proofs.Joints.{joint_decides}
 use Rattle.jobs.proofs.Heights.{byte_below, length_heights_bytes, heights_bytes_below, heights_back, length_heights_of, heights_kept, heights_words}
 

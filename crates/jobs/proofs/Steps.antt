@@ -1,8 +1,8 @@
 -- Reading a job, step by step. Assumes nothing.
-use Rattle.std.proofs.Common.{◌≡◌, ℕ, ◌+◌, ◌*◌, Bool, true, false, List, [], ◌∷◌, ◌++◌, length, take, drop, Ok, Err, Result, sym, refl, ap, ◌∙◌, subst, append-nil, arith}
+use Rattle.std.proofs.Common.{◌≡◌, ℕ, ◌+◌, ◌*◌, true, false, List, ◌++◌, length, take, drop, Ok, Err, Result, sym, ap, ◌∙◌, subst, append-nil, arith}
 use Rattle.tables.specs.Bytes.{Bytes}
 use Rattle.tables.specs.Form.{Form}
-use Rattle.tables.specs.Parts.{and_then, Reader, after, checked, inside}
+use Rattle.tables.specs.Parts.{and_then, Reader, after, inside}
 use Rattle.saved.specs.declared.fault.PlanFault.{PlanFault}
 use Rattle.saved.specs.Plan.{plan_part, plan_bytes, read_plan}
 use Rattle.saved.proofs.Plans.{plan_exact}

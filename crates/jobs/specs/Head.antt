@@ -1,6 +1,5 @@
 -- What opens a job, as bytes. Assumes nothing.
-use Rattle.std.specs.Prelude.{ℕ, zero, suc, Bool, true, false, cond, ◌&&◌, List, [], ◌∷◌, ◌==◌, nat_le}
-use Rattle.tables.specs.Bytes.{bytes_of}
+use Rattle.std.specs.Prelude.{ℕ, Bool, true, false, cond, ◌&&◌, ◌==◌, nat_le}
 use Rattle.jobs.specs.declared.head.Mode.{Mode}
 use Rattle.jobs.specs.declared.head.Mode.TheVariants.{Open, Strict}
 use Rattle.jobs.specs.declared.head.Edition.{Edition}

@@ -1,10 +1,9 @@
 -- The ledger's find is the first wanted placement. Assumes nothing.
-use Rattle.std.proofs.Common.{◌≡◌, ℕ, ◌<◌, Bool, true, false, cond, ◌&&◌, eqb, ◌⊎◌, List, length, get_or, Some, None, Decides, Option, sym, refl, ap, ◌∙◌, subst, ap₂, inl, inr, ⊎_elim, arith}
+use Rattle.std.proofs.Common.{◌≡◌, ℕ, ◌<◌, true, cond, ◌&&◌, eqb, List, get_or, Some, None, Decides, Option, sym, refl, ap, ◌∙◌, subst, ap₂, ⊎_elim, arith}
 use Rattle.std.proofs.lemmas.Bool.{cases_eq, eq-eqb, ne_eqb, eqb-true, and_parts}
 use Rattle.std.proofs.lemmas.Bool.Decides.{Decides-and, Decides-like}
 use Rattle.graphs.specs.Rows.{Pairs}
-use Rattle.placements.specs.Placement.{Placement, Within}
-use Rattle.placements.specs.Order.{Before, Answers}
+use Rattle.placements.specs.Order.{Answers}
 use Rattle.placements.specs.Tests.{placement_test, within_test}
 use Rattle.placements.specs.Listing.{find}
 use Rattle.placements.proofs.Deciding.{placement_decides, within_decides, before_decides}

@@ -1,5 +1,5 @@
 -- Ledgers that a plan can hold, and that accepted calls keep so. Assumes nothing.
-use Rattle.std.proofs.Common.{◌≡◌, ℕ, ◌<◌, ◌≤◌, Bool, true, false, not, ◌&&◌, ◌||◌, eqb, ltb, ◌⊎◌, List, [], ◌∷◌, length, get_or, Some, None, Ok, Err, Option, Result, sym, refl, ap, ◌∙◌, subst, ap₂, ⊎_elim, arith}
+use Rattle.std.proofs.Common.{◌≡◌, ℕ, ◌<◌, ◌≤◌, Bool, true, false, not, ◌&&◌, ◌||◌, eqb, ltb, List, length, get_or, Some, None, Ok, Err, Option, Result, sym, refl, ap, ◌∙◌, subst, ap₂, ⊎_elim, arith}
 use Rattle.std.proofs.lemmas.List.{get_or_past}
 use Rattle.std.proofs.lemmas.Bool.{cases_lt, le-ltb, ne_eqb}
 use Rattle.refusals.specs.declared.Reason.TheVariants as R
@@ -11,7 +11,7 @@ use Rattle.tables.specs.Form.{Form}
 use Rattle.saved.specs.declared.fault.PlanFault.{PlanFault}
 use Rattle.saved.specs.Plan.{read_plan}
 use Rattle.ledgers.specs.Calls.{Call, begin, «open», strike, free, fit, fit_further, seek, further, what_if, tally, save}
-use Rattle.ledgers.specs.Ledger.{Ledger, Fitting, unfitted, fits, no_pairs, one_pair, accepted, verdict, opened, with_find, newest, narrowed_by, open_pairs, find_in, made}
+use Rattle.ledgers.specs.Ledger.{Ledger, Fitting, unfitted, fits, one_pair, accepted, verdict, opened, with_find, newest, narrowed_by, open_pairs, find_in, made}
 use Rattle.ledgers.specs.Answered.{Open}
 use Rattle.ledgers.specs.Ranged.{Ranged}
 use Rattle.ledgers.proofs.Finding.{find_wanted}

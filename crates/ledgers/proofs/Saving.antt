@@ -1,5 +1,5 @@
 -- What bytes open to is what is saved. Assumes nothing.
-use Rattle.std.proofs.Common.{◌≡◌, ℕ, ◌^◌, ◌<◌, ◌≤◌, Bool, false, List, length, get_or, take, Ok, Err, Result, sym, refl, ap, ◌∙◌, subst, ap₂, arith, take_all}
+use Rattle.std.proofs.Common.{◌≡◌, ℕ, ◌≤◌, List, length, Ok, Err, Result, sym, refl, ap, ◌∙◌, subst, ap₂, arith, take_all}
 use Rattle.std.proofs.lemmas.List.{get_or_past}
 use Rattle.graphs.specs.Rows.{Pairs, pairs, rows_of}
 use Rattle.graphs.proofs.PairSets.{rows_length, rows_low, pairs_back, take_rows, none_past, none_beyond}

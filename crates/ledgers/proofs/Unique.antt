@@ -1,5 +1,5 @@
 -- No call has two right answers. Assumes nothing.
-use Rattle.std.proofs.Common.{◌≡◌, ℕ, ◌⊎◌, List, [], get_or, Some, None, Option, sym, refl, ap, ◌∙◌, inl, inr}
+use Rattle.std.proofs.Common.{◌≡◌, ℕ, List, [], None, Option, sym, ap, ◌∙◌, inl, inr}
 use Rattle.placements.proofs.Orders.{first_unique}
 use Rattle.search.specs.Walk.{Setting}
 use Rattle.ledgers.specs.Calls.{Call, begin, «open», strike, free, fit, fit_further, seek, further, what_if, tally, save, Answer, done, refused, buffer_of}

@@ -1,11 +1,11 @@
 -- What an accepted call has kept to. Assumes nothing.
-use Rattle.std.proofs.Common.{◌≡◌, ℕ, ◌<◌, ◌≤◌, Bool, true, false, not, ◌||◌, eqb, ltb, sym, refl, inl, inr, arith}
+use Rattle.std.proofs.Common.{◌≡◌, ℕ, ◌<◌, Bool, true, false, not, sym, refl, inl, inr, arith}
 use Rattle.std.proofs.lemmas.Bool.{eqb-true, ltb-true, ltb-false, or_parts, lt-ltb, eq-eqb, or_from, not_from_true, cases_Bool}
 use Rattle.refusals.specs.declared.Reason.{Reason}
 use Rattle.refusals.specs.declared.Reason.TheVariants as R
 use Rattle.search.specs.Walk.{Setting}
 use Rattle.ledgers.specs.Calls.{begin}
-use Rattle.ledgers.specs.Ledger.{Ledger, Verdict, accepted, declined, unless, outside, other_counts, ill_sizes, no_pairs, verdict}
+use Rattle.ledgers.specs.Ledger.{Ledger, Verdict, accepted, unless, outside, other_counts, ill_sizes, no_pairs, verdict}
 use Rattle.ledgers.specs.Ranged.{Ranged}
 
 -- a rule that an accepted call keeps

@@ -1,5 +1,5 @@
 -- What the calls of a plan answer, by its ledger. Assumes nothing.
-use Rattle.std.specs.Prelude.{◌≡◌, ℕ, zero, suc, ◌+◌, Bool, cond, not, ◌⊎◌, List, [], ◌++◌, length, drop, Some, None, Option, slice_index}
+use Rattle.std.specs.Prelude.{◌≡◌, ℕ, zero, suc, ◌+◌, Bool, cond, not, ◌⊎◌, List, [], ◌++◌, length, drop, None, Option, slice_index}
 use Rattle.graphs.specs.Rows.{Pairs, rows_of}
 use Rattle.placements.specs.Order.{IsFirst}
 use Rattle.search.specs.Walk.{Setting, walk}

@@ -1,5 +1,5 @@
 -- What the searches of a plan look for. Assumes nothing.
-use Rattle.std.specs.Prelude.{◌≡◌, ℕ, Bool, true, cond, ◌&&◌, List, Some, None, Option, ◌==◌}
+use Rattle.std.specs.Prelude.{ℕ, Bool, true, cond, ◌&&◌, List, Some, None, Option, ◌==◌}
 use Rattle.graphs.specs.Rows.{Pairs}
 use Rattle.graphs.specs.Graph.{Sound}
 use Rattle.placements.specs.Placement.{Placement, Within}

@@ -1,5 +1,5 @@
 -- The call's answer, and that bytes have one text. Assumes nothing.
-use Rattle.std.proofs.Common.{◌≡◌, ℕ, ◌+◌, ◌*◌, ◌<◌, ◌≤◌, List, length, drop, Ok, Err, Result, sym, refl, ap, ◌∙◌, subst, arith, length-drop, MatchResult}
+use Rattle.std.proofs.Common.{◌≡◌, ℕ, ◌≤◌, List, length, drop, Ok, Err, Result, sym, refl, ap, ◌∙◌, subst, arith, length-drop, MatchResult}
 use Rattle.placements.proofs.Orders.{lists_unique}
 use Rattle.tables.specs.Form.{Form}
 use Rattle.saved.specs.Plan.{plan_bytes}
@@ -8,10 +8,9 @@ use Rattle.jobs.specs.declared.fault.JobFault.{JobFault}
 use Rattle.jobs.specs.Form.{JobForm}
 use Rattle.jobs.specs.Read.{read_job}
 use Rattle.jobs.specs.Told.{job_told}
-use Rattle.listings.specs.declared.call.JobAnswer.{JobAnswer}
 use Rattle.listings.specs.Suited.{Suited}
 use Rattle.listings.specs.Text.{listing_text, refusal_text, Wrote}
-use Rattle.listings.specs.JobText.{Listed, WroteListing, JobText, OneText, Answered}
+use Rattle.listings.specs.JobText.{Listed, WroteListing, OneText, Answered}
 
 one : (r : Result JobForm JobFault) (s t : List ℕ) → MatchResult r (λ j. Listed j s) (λ e. s ≡ refusal_text (job_told e)) → MatchResult r (λ j. Listed j t) (λ e. t ≡ refusal_text (job_told e)) → s ≡ t
 one (Ok j) s t f g = f.is ∙ ap listing_text (lists_unique (Suited j) f.all g.all f.lists g.lists) ∙ sym g.is

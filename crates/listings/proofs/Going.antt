@@ -1,23 +1,23 @@
 -- The searches of a job's plan go through the list of all its placements. Assumes nothing.
-use Rattle.std.proofs.Common.{◌≡◌, ℕ, ◌+◌, ◌<◌, ◌≤◌, Bool, true, false, cond, not, ◌&&◌, ◌||◌, eqb, ltb, ◌⊎◌, List, [], ◌∷◌, ◌++◌, length, get_or, take, drop, is_ok, Some, None, Ok, Err, Decides, Option, Result, sym, refl, ap, ◌∙◌, subst, ap₂, inl, inr, ⊎_elim, arith, length-append, length-drop}
+use Rattle.std.proofs.Common.{◌≡◌, ℕ, ◌+◌, ◌<◌, ◌≤◌, Bool, true, false, not, ◌&&◌, ◌||◌, ltb, List, [], length, get_or, take, drop, is_ok, Some, None, Ok, Err, Decides, Option, Result, sym, refl, ap, ◌∙◌, subst, ap₂, inl, inr, arith, length-append, length-drop}
 use Rattle.std.proofs.lemmas.List.{take_at}
 use Rattle.std.proofs.lemmas.Bool.{and_from, and_parts, both_ways, eq-eqb, le-ltb, lt-ltb}
 use Rattle.std.proofs.lemmas.Bool.Decides.{Decides-and, Decides-like}
 use Rattle.refusals.specs.declared.Reason.TheVariants as R
 use Rattle.graphs.specs.Graph.{Graph}
-use Rattle.graphs.specs.Rows.{Pairs, pairs}
-use Rattle.placements.specs.Placement.{Placement, Within}
-use Rattle.placements.specs.Order.{Before, IsFirst, Answers, Lists}
+use Rattle.graphs.specs.Rows.{pairs}
+use Rattle.placements.specs.Placement.{Placement}
+use Rattle.placements.specs.Order.{IsFirst, Answers, Lists}
 use Rattle.placements.specs.Tests.{placement_test, within_test}
 use Rattle.placements.specs.Listing.{listing}
 use Rattle.placements.proofs.Deciding.{placement_decides, within_decides}
 use Rattle.placements.proofs.Listings.{listing_all}
 use Rattle.placements.proofs.Orders.{answers_unique}
 use Rattle.search.specs.Walk.{Setting}
-use Rattle.ledgers.specs.Calls.{Call, seek, further, Answer, found, none}
+use Rattle.ledgers.specs.Calls.{Call, seek, further, Answer}
 use Rattle.ledgers.specs.Wanted.{After, Wanted}
 use Rattle.ledgers.specs.Ledger.{Ledger, accepted, verdict, unless, open_pairs, other_counts, made, with_find, find_in, by_verdict, after}
-use Rattle.ledgers.specs.Answered.{over, Open, Finds, Answered, Right}
+use Rattle.ledgers.specs.Answered.{over, Finds, Answered, Right}
 use Rattle.ledgers.proofs.Finding.{find_wanted}
 use Rattle.plans.specs.declared.plan.Plan.{Plan}
 use Rattle.plans.specs.declared.refusal.Refusal.{Refusal}

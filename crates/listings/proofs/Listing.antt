@@ -1,12 +1,12 @@
 -- The lines of a job's placements, written one by one. Assumes nothing.
-use Rattle.std.proofs.Common.{◌≡◌, ℕ, ◌+◌, ◌*◌, ◌<◌, ◌≤◌, Bool, true, false, cond, ◌&&◌, ltb, List, [], ◌∷◌, ◌++◌, length, get_or, take, codes, sym, refl, ap, ◌∙◌, subst, ap₂, inl, inr, arith}
+use Rattle.std.proofs.Common.{◌≡◌, ℕ, ◌+◌, ◌*◌, ◌<◌, ◌≤◌, Bool, true, false, cond, ◌&&◌, ltb, List, [], ◌++◌, length, get_or, take, codes, sym, refl, ap, ◌∙◌, subst, ap₂, inl, inr, arith}
 use Rattle.std.proofs.lemmas.List.{get_or_past, take_all}
 use Rattle.std.proofs.lemmas.Bool.{both_ways, cases_lt, lt-ltb, le-ltb}
 use Rattle.jobs.specs.Form.{JobForm, JobLawful}
 use Rattle.plans.specs.declared.plan.Plan.{Plan}
 use Rattle.listings.specs.Text.{line, lines, listing_text, Wrote}
 use Rattle.listings.specs.Suited.{Suited}
-use Rattle.listings.specs.JobText.{Listed, WroteListing}
+use Rattle.listings.specs.JobText.{WroteListing}
 use Rattle.listings.proofs.Writing.{then, wrote_nothing, wrote_same, line_short, lines_more, lines_short}
 use Rattle.listings.proofs.Going.{all, all_lists, At}
 

@@ -1,22 +1,19 @@
 -- Opening and fitting a job's plan. Assumes nothing.
-use Rattle.std.proofs.Common.{◌≡◌, ℕ, Bool, true, false, cond, not, ◌||◌, eqb, List, [], map, length, None, Ok, Err, Result, sym, refl, ap, ◌∙◌, subst, ap₂, arith}
+use Rattle.std.proofs.Common.{◌≡◌, ℕ, Bool, true, false, not, ◌||◌, List, [], map, length, None, Ok, Err, sym, refl, ap, ◌∙◌, subst, ap₂}
 use Rattle.std.proofs.lemmas.List.{length-map}
 use Rattle.std.proofs.lemmas.Bool.{eq-eqb, both_ways}
 use Rattle.refusals.specs.declared.Reason.TheVariants as R
 use Rattle.graphs.specs.Rows.{pairs}
-use Rattle.tables.specs.Form.{Form}
 use Rattle.saved.specs.declared.fault.PlanFault.{PlanFault}
 use Rattle.saved.specs.Plan.{plan_bytes, read_plan}
-use Rattle.saved.specs.Told.{plan_told}
 use Rattle.saved.proofs.Plans.{plan_opens}
-use Rattle.books.specs.Fit.{Cards}
 use Rattle.ledgers.specs.Calls.{Call, «open», fit, Answer, done, number, found, yes, none, refused, buffer_of}
-use Rattle.ledgers.specs.Ledger.{Ledger, begun, Verdict, accepted, declined, verdict, readable, unless, opened, made, by_verdict, after, other_cards}
+use Rattle.ledgers.specs.Ledger.{Ledger, begun, Verdict, accepted, verdict, readable, unless, opened, made, by_verdict, after, other_cards}
 use Rattle.ledgers.specs.Answered.{Judged, Answered, Right}
 use Rattle.plans.specs.declared.plan.Plan.{Plan}
 use Rattle.plans.specs.declared.refusal.Refusal.{Refusal}
 use Rattle.plans.specs.declared.refusal.Refusal.TheVariants as P
-use Rattle.plans.specs.Refused.{declining, doing, finding, opening}
+use Rattle.plans.specs.Refused.{declining, doing, opening}
 use Rattle.plans.specs.Step.{view, turn, Step}
 use Rattle.jobs.specs.Form.{JobForm, JobLawful}
 use Rattle.listings.specs.Suited.{kind_card, height_card, cards_of}

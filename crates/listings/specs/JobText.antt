@@ -1,5 +1,5 @@
 -- What the job call answers and writes. Assumes nothing.
-use Rattle.std.specs.Prelude.{◌≡◌, ℕ, ◌<◌, ◌≤◌, List, length, MatchResult}
+use Rattle.std.specs.Prelude.{◌≡◌, ℕ, List, length, MatchResult}
 use Rattle.refusals.specs.Numbers.{number_of}
 use Rattle.refusals.specs.declared.Reason.TheVariants.{NoRoom}
 use Rattle.placements.specs.Order.{Lists}

@@ -1,5 +1,5 @@
 -- The placements that a job asks for. Assumes nothing.
-use Rattle.std.specs.Prelude.{ℕ, Bool, not, ◌&&◌, List, map}
+use Rattle.std.specs.Prelude.{ℕ, not, ◌&&◌, List, map}
 use Rattle.graphs.specs.Graph.{Graph}
 use Rattle.graphs.specs.JointTable.{table_graph}
 use Rattle.graphs.specs.Rows.{Pairs, pairs}

@@ -1,12 +1,12 @@
 -- The row of the bays that agree with one bay, made by the operators on bits. Assumes nothing.
-use Rattle.std.proofs.Common.{◌≡◌, ℕ, ◌+◌, ◌-◌, ◌*◌, ◌/◌, ◌%◌, ◌^◌, ◌<◌, ◌≤◌, Bool, true, false, not, ◌&&◌, eqb, ltb, sym, refl, ap, ◌∙◌, ap₂, inl, inr, arith}
+use Rattle.std.proofs.Common.{◌≡◌, ℕ, ◌-◌, ◌*◌, ◌/◌, ◌%◌, ◌^◌, ◌<◌, ◌≤◌, Bool, true, false, not, ◌&&◌, eqb, ltb, sym, ap, ◌∙◌, ap₂, inl, inr, arith}
 use lib.Bits.{bit_and}
 use Rattle.std.proofs.lemmas.Nat.{one_shl}
 use Rattle.std.proofs.lemmas.Bool.Decides.{nat_tests}
 use Rattle.std.proofs.lemmas.Bool.{cases_lt, lt-ltb, le-ltb, ne_eqb}
 use Rattle.graphs.specs.Rows.{bit, row_of}
-use Rattle.graphs.specs.Graph.{Graph, Sound}
-use Rattle.graphs.proofs.Bits.{bit_of_and, bit_not, bit_one, bit_none, bit_past}
+use Rattle.graphs.specs.Graph.{Graph}
+use Rattle.graphs.proofs.Bits.{bit_of_and, bit_not, bit_one, bit_none}
 use Rattle.graphs.proofs.Rows.{bit_row_of, bit_all, row_is}
 use Rattle.placements.specs.Agreement.{half, agrees_if}
 

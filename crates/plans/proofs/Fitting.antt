@@ -1,5 +1,5 @@
 -- Fits by a rule book. Assumes nothing.
-use Rattle.std.proofs.Common.{◌≡◌, ℕ, ◌<◌, ◌≤◌, Bool, true, false, ◌&&◌, ltb, List, [], length, get_or, sym, refl, ap, ◌∙◌, ap₂, ⊎_elim, arith}
+use Rattle.std.proofs.Common.{◌≡◌, ℕ, ◌≤◌, Bool, true, false, ◌&&◌, ltb, List, [], length, sym, refl, ap, ◌∙◌, ap₂, ⊎_elim, arith}
 use mathlib.Core.Path.{fun_ext}
 use Rattle.std.proofs.lemmas.Bool.{cases_lt, cond-false, eq-eqb, lt-ltb, le-ltb, or_from, not_from_true}
 use Rattle.graphs.specs.Rows.{Pairs, pairs}

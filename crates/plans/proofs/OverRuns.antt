@@ -1,9 +1,9 @@
 -- The law over runs. Assumes nothing.
-use Rattle.std.proofs.Common.{◌≡◌, ℕ, ◌+◌, ◌-◌, ◌*◌, ◌<◌, ◌≤◌, Bool, true, false, cond, not, ◌⊎◌, List, [], ◌∷◌, length, Some, None, Option, sym, refl, ap, ◌∙◌, subst, inl, inr, ⊎_elim, arith}
+use Rattle.std.proofs.Common.{◌≡◌, ℕ, ◌+◌, ◌*◌, ◌<◌, ◌≤◌, Bool, true, false, cond, not, ◌⊎◌, List, [], ◌∷◌, length, Some, None, Option, sym, refl, ap, ◌∙◌, subst, inl, inr, ⊎_elim, arith}
 use mathlib.Core.Bool.{false≢true}
 use Rattle.std.proofs.lemmas.Bool.{cases_lt, lt-ltb, le-ltb, cond-true, cond-false}
 use Rattle.refusals.specs.declared.Reason.TheVariants as R
-use Rattle.placements.specs.Order.{IsFirst, Answers}
+use Rattle.placements.specs.Order.{Answers}
 use Rattle.placements.proofs.Orders.{answers_unique}
 use Rattle.search.specs.Walk.{Setting}
 use Rattle.ledgers.specs.Calls.{Call, begin, «open», strike, free, fit, fit_further, seek, further, what_if, tally, save, Refusal, rule, Answer, done, number, yes, none, refused, buffer_of}
@@ -13,7 +13,7 @@ use Rattle.ledgers.specs.Answered.{over, how_many, tries_in, Open, Finds, SomeHa
 use Rattle.ledgers.specs.Counts.{counted}
 use Rattle.ledgers.specs.Ranged.{Ranged}
 use Rattle.ledgers.proofs.Finding.{find_wanted}
-use Rattle.ledgers.proofs.Verdicts.{keeps_rule, pair_in, rooms_match, arrangements_match}
+use Rattle.ledgers.proofs.Verdicts.{keeps_rule, rooms_match, arrangements_match}
 use Rattle.ledgers.proofs.Balance.{many_rest, balanced}
 use Rattle.ledgers.proofs.Unique.{one_right}
 use Rattle.ledgers.proofs.Saving.{opens_to, opened_is_saved}

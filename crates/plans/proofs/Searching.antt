@@ -1,5 +1,5 @@
 -- What seek, further and what-if answer. Assumes nothing.
-use Rattle.std.proofs.Common.{◌≡◌, ℕ, zero, suc, ◌+◌, ◌-◌, ◌*◌, ◌%◌, ◌^◌, ◌<◌, ◌≤◌, Bool, true, false, cond, not, ◌&&◌, eqb, leb, ◌⊎◌, List, [], ◌∷◌, ◌++◌, length, get_or, take, drop, set, replicate, Some, None, Ok, Err, Option, Result, sym, refl, ap, ◌∙◌, subst, ap₂, inl, inr, ⊎_elim, arith}
+use Rattle.std.proofs.Common.{◌≡◌, ℕ, zero, suc, ◌-◌, ◌*◌, ◌%◌, ◌^◌, ◌<◌, ◌≤◌, Bool, true, false, cond, not, ◌&&◌, eqb, leb, List, [], ◌∷◌, ◌++◌, length, get_or, take, drop, set, replicate, Some, None, Ok, Err, Option, Result, sym, refl, ap, ◌∙◌, subst, ap₂, inl, inr, ⊎_elim, arith}
 use mathlib.Core.Path.{fun_ext}
 use mathlib.Core.Bool.{false≢true}
 use lib.Bits.{bit_and}
@@ -17,13 +17,13 @@ use Rattle.tables.specs.Shape.{Inside, Blank}
 use Rattle.search.specs.declared.Find.{Find}
 use Rattle.search.specs.declared.SearchError.{SearchError}
 use Rattle.search.specs.declared.SearchError.TheVariants.{IllShaped, NoPlacement}
-use Rattle.search.specs.Walk.{Setting, Outcome, walk}
-use Rattle.search.specs.Found.{told, padded, answer_with, answer_of, Sought, SoughtAfter, Searched}
+use Rattle.search.specs.Walk.{Setting, walk}
+use Rattle.search.specs.Found.{told, padded, answer_with, answer_of, Sought, SoughtAfter}
 use Rattle.refusals.specs.declared.Reason.TheVariants as R
 use Rattle.ledgers.specs.Calls.{Call, seek, further, what_if, rule, Answer, yes, none, found, refused}
-use Rattle.ledgers.specs.Wanted.{Wanted, wanted, held_to, After}
+use Rattle.ledgers.specs.Wanted.{Wanted, held_to}
 use Rattle.ledgers.specs.Ledger.{no_last, no_fit, accepted, verdict, made, with_find, newest, open_in, open_pairs, find_in}
-use Rattle.ledgers.specs.Answered.{tries_in, Open, Finds, SomeHas, Asks, Answered}
+use Rattle.ledgers.specs.Answered.{tries_in, Open, Finds, Asks, Answered}
 use Rattle.ledgers.proofs.Finding.{find_wanted, wanted_in, wanted_of}
 use Rattle.ledgers.proofs.Verdicts.{inside_is, counts_match, counts_differ}
 use Rattle.plans.specs.Bounds.{Low}

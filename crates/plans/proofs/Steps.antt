@@ -1,5 +1,5 @@
 -- From what a call does to the record to its step. Assumes nothing.
-use Rattle.std.proofs.Common.{◌≡◌, ℕ, ◌≤◌, true, false, ◌⊎◌, List, [], ◌∷◌, length, get_or, replicate, None, Option, sym, refl, ap, ◌∙◌, subst, ⊎_elim, arith, pow_pos}
+use Rattle.std.proofs.Common.{◌≡◌, ℕ, ◌≤◌, true, false, List, [], ◌∷◌, length, get_or, replicate, None, Option, sym, refl, ap, ◌∙◌, subst, ⊎_elim, arith, pow_pos}
 use mathlib.Core.Path.{fun_ext}
 use mathlib.Core.Bool.{false≢true}
 use Rattle.std.proofs.lemmas.List.{get_or-replicate, length-replicate, get_or_past}
@@ -8,7 +8,7 @@ use Rattle.graphs.specs.Rows.{bit, Pairs, pairs}
 use Rattle.graphs.proofs.Bits.{bit_none}
 use Rattle.tables.specs.Shape.{Inside, Blank}
 use Rattle.ledgers.specs.Calls.{Call, begin, Refusal, Answer, done, refused, buffer_of}
-use Rattle.ledgers.specs.Ledger.{Ledger, Fitting, begun, no_pairs, Verdict, accepted, declined, verdict, made, by_verdict}
+use Rattle.ledgers.specs.Ledger.{Ledger, Fitting, begun, no_pairs, accepted, declined, verdict, made, by_verdict}
 use Rattle.ledgers.specs.Answered.{Answered, Judged}
 use Rattle.plans.specs.Step.{fitting, shortened, view, Same, Step, Fresh, turn, idle}
 use Rattle.plans.specs.declared.plan.Plan.{Plan}

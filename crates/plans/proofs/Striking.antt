@@ -1,5 +1,5 @@
 -- Pairs struck, freed and counted. Assumes nothing.
-use Rattle.std.proofs.Common.{◌≡◌, ℕ, zero, suc, ◌+◌, ◌-◌, ◌*◌, ◌/◌, ◌%◌, ◌^◌, ◌<◌, ◌≤◌, Bool, true, false, cond, not, ◌&&◌, ◌||◌, eqb, ◌⊎◌, List, [], ◌∷◌, length, get_or, set, sum_by, sym, refl, ap, ◌∙◌, subst, ap₂, ⊎_elim, suc-mul, pow-suc, arith}
+use Rattle.std.proofs.Common.{◌≡◌, ℕ, zero, suc, ◌+◌, ◌-◌, ◌*◌, ◌/◌, ◌%◌, ◌^◌, ◌<◌, ◌≤◌, Bool, true, false, cond, not, ◌&&◌, ◌||◌, eqb, List, [], ◌∷◌, length, get_or, set, sum_by, sym, refl, ap, ◌∙◌, subst, ap₂, ⊎_elim, suc-mul, pow-suc, arith}
 use mathlib.Core.Path.{fun_ext}
 use mathlib.Core.Bool.{or-false, and-true}
 use lib.Bits.{bit_or, bit_and}
@@ -8,7 +8,7 @@ use Rattle.std.proofs.lemmas.List.Sums.{sum_by-cons}
 use Rattle.std.proofs.lemmas.List.{get_or-set_same, get_or-set_other}
 use Rattle.std.proofs.lemmas.Nat.{one_shl}
 use Rattle.std.proofs.lemmas.Bool.{cases_eq, cond-false, eq-eqb, ne_eqb, not_from_true, cases_Bool, eqb-true, eqb-false}
-use Rattle.graphs.specs.Rows.{bit, Pairs, pairs}
+use Rattle.graphs.specs.Rows.{bit, pairs}
 use Rattle.graphs.proofs.Bits.{bit_of_or, bit_one, bit_none, bit_suc, bit_zero}
 use Rattle.graphs.proofs.PairSets.{bit_without}
 use Rattle.tables.specs.Shape.{Inside, Blank}

@@ -5,7 +5,7 @@ use Rattle.graphs.specs.Rows.{Pairs}
 use Rattle.placements.specs.Order.{IsFirst, Answers}
 use Rattle.search.specs.Walk.{Setting}
 use Rattle.ledgers.specs.Calls.{Call, begin, «open», strike, free, fit, fit_further, seek, further, what_if, tally, save, Refusal, rule, Answer, done, number, found, yes, none, refused, buffer_of}
-use Rattle.ledgers.specs.Wanted.{Fair, held_to}
+use Rattle.ledgers.specs.Wanted.{held_to}
 use Rattle.ledgers.specs.Ledger.{Ledger, begun, ledger, accepted, declined, verdict, made, saved_form, form_of, other_counts, open_pairs, find_in}
 use Rattle.ledgers.specs.Answered.{over, how_many, tries_in, Open, SomeHas}
 use Rattle.ledgers.specs.Counts.{counted}

@@ -10,7 +10,7 @@ use Rattle.ledgers.specs.Ledger.{Ledger, open_pairs, Verdict, accepted, declined
 use Rattle.ledgers.specs.Answered.{tries_in, Open, Finds, Asks, Answered, Judged}
 use Rattle.ledgers.proofs.Finding.{find_wanted, wanted_in, wanted_of}
 use Rattle.ledgers.proofs.Verdicts.{keeps_rule, pair_in, arrangements_match, rooms_match}
-use Rattle.rooms.specs.Telling.{Told, by_find, by_ask, accepted_tells, by, tells, TellsRight}
+use Rattle.rooms.specs.Telling.{by_find, by_ask, accepted_tells, by, TellsRight}
 
 finds : (l : Ledger) (s : Setting) (o f : Option (List ℕ)) (out : List ℕ) → Answers (Open l s o) f
     → Finds l s o out (by_find f (tries_in l s (open_pairs l) o) out).answer (by_find f (tries_in l s (open_pairs l) o) out).buffer

@@ -1,7 +1,6 @@
 -- The answers of a list of calls, worked out one by one. Assumes nothing.
-use Rattle.std.specs.Prelude.{◌≡◌, ℕ, Bool, true, false, not, List, [], ◌∷◌, length, Some, None, Option}
+use Rattle.std.specs.Prelude.{ℕ, not, List, [], ◌∷◌, length, Some, None, Option}
 use Rattle.placements.specs.Listing.{find}
-use Rattle.search.specs.Walk.{Setting}
 use Rattle.ledgers.specs.Calls.{Call, begin, «open», strike, free, fit, fit_further, seek, further, what_if, tally, save, Answer, done, number, found, yes, none, refused, buffer_of}
 use Rattle.ledgers.specs.Wanted.{wanted, held_to}
 use Rattle.ledgers.specs.Ledger.{Ledger, open_pairs, form_of, Verdict, accepted, declined, verdict, find_in, ledger}

@@ -1,10 +1,9 @@
 -- Saved plans are an exact part. Assumes nothing.
-use Rattle.std.proofs.Common.{◌≡◌, ℕ, zero, suc, ◌+◌, ◌*◌, ◌≤◌, Bool, true, ◌&&◌, eqb, leb, List, [], ◌∷◌, ◌++◌, length, get_or, take, Ok, Err, Result, sym, refl, ap, ◌∙◌, subst, append-nil, arith}
+use Rattle.std.proofs.Common.{◌≡◌, ℕ, zero, suc, ◌+◌, ◌*◌, true, eqb, List, [], ◌∷◌, ◌++◌, length, get_or, take, Ok, Result, sym, refl, ap, ◌∙◌, subst, append-nil, arith}
 use Rattle.std.proofs.lemmas.Bool.{and_from, and_parts, eqb-true, le-leb, leb-true}
 use Rattle.tables.specs.Bytes.{Bytes}
 use Rattle.tables.specs.Form.{Form, Lawful}
 use Rattle.tables.specs.Parts.{and_then, Anything, Nothing, Exact}
-use Rattle.tables.specs.Read.{read_table}
 use Rattle.tables.specs.Saved.{Saved}
 use Rattle.tables.specs.Written.{table_bytes, stored}
 use Rattle.tables.proofs.Parts.{after_exact, and_then_ok, alone_exact, checked_exact, inside_exact, some_bytes_exact, turned_exact}

@@ -1,5 +1,5 @@
 -- Reading a saved plan, step by step. Assumes nothing.
-use Rattle.std.proofs.Common.{◌≡◌, ℕ, ◌+◌, ◌<◌, ◌≤◌, Bool, true, false, cond, eqb, ltb, List, [], ◌∷◌, length, get_or, take, drop, Ok, Err, Result, sym, refl, ap, ◌∙◌, arith, length-drop}
+use Rattle.std.proofs.Common.{◌≡◌, ℕ, ◌+◌, ◌<◌, ◌≤◌, true, false, cond, eqb, ltb, List, length, get_or, take, drop, Ok, Err, Result, sym, ap, ◌∙◌, arith, length-drop}
 use Rattle.std.proofs.lemmas.List.{get_or-take, get_or-drop}
 use Rattle.std.proofs.lemmas.Bool.{cond-false, cond-true, eq-eqb, ne_eqb, le-ltb, lt-ltb}
 use Rattle.tables.specs.declared.fault.TableFault.{TableFault}
@@ -8,7 +8,7 @@ use Rattle.tables.specs.Parts.{and_then}
 use Rattle.tables.specs.Read.{read_table}
 use Rattle.saved.specs.declared.fault.PlanFault.{PlanFault}
 use Rattle.saved.specs.declared.fault.PlanFault.TheVariants as P
-use Rattle.saved.specs.Plan.{form_part, struck_part, plan_part, read_plan, sized}
+use Rattle.saved.specs.Plan.{form_part, struck_part, read_plan, sized}
 
 -- a result with the form byte in front
 abbrev Body : Type 0

@@ -1,5 +1,5 @@
 -- A form saved behind the form byte. Assumes nothing.
-use Rattle.std.proofs.Common.{◌≡◌, ℕ, zero, suc, ◌+◌, ◌-◌, ◌<◌, ◌≤◌, Bool, true, false, cond, ltb, ◌⊎◌, List, [], ◌∷◌, ◌++◌, length, take, drop, set, Ok, Err, Result, sym, refl, ap, ◌∙◌, inl, inr, ⊎_elim, append-nil, arith, le-ltb, lt-ltb}
+use Rattle.std.proofs.Common.{◌≡◌, ℕ, suc, ◌+◌, ◌-◌, ◌<◌, ◌≤◌, true, false, ltb, List, [], ◌∷◌, length, take, drop, set, Ok, Err, Result, sym, refl, ap, ◌∙◌, ⊎_elim, append-nil, arith, le-ltb, lt-ltb}
 use borrow.Rule.Slice.PartMut.{put_mid}
 use Rattle.std.proofs.lemmas.List.{drop_all, take_all}
 use Rattle.std.proofs.lemmas.Bool.{cases_lt}
@@ -7,7 +7,6 @@ use Rattle.tables.specs.declared.fault.SaveFault.{SaveFault}
 use Rattle.tables.specs.declared.fault.SaveFault.TheVariants.{Short}
 use Rattle.text.specs.Lay.{lay}
 use Rattle.tables.specs.Saved.{Saved}
-use Rattle.text.proofs.Lay.{length_lay}
 
 lay_suc : (x : ℕ) (xs : List ℕ) (at : ℕ) (bs : List ℕ) → lay (x ∷ xs) (suc at) bs ≡ x ∷ lay xs at bs
 unfolding lay

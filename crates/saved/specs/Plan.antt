@@ -1,5 +1,5 @@
 -- The saved form of a plan, and what reading it answers, for every input. Assumes nothing.
-use Rattle.std.specs.Prelude.{◌≡◌, ℕ, ◌≤◌, Bool, ◌&&◌, List, ◌∷◌, length, Ok, Err, Result, nat_eq, nat_le, slice_index}
+use Rattle.std.specs.Prelude.{ℕ, ◌≤◌, Bool, ◌&&◌, List, ◌∷◌, length, Ok, Err, Result, nat_eq, nat_le, slice_index}
 use Rattle.tables.specs.declared.table.Table.{Table}
 use Rattle.tables.specs.Form.{Form, Lawful, view}
 use Rattle.tables.specs.Parts.{and_then, Reader, some_bytes, after, checked, alone, inside, turned}

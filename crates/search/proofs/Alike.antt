@@ -1,8 +1,6 @@
 -- Two lawful filters find the same. Assumes nothing.
-use Rattle.std.proofs.Common.{◌≡◌, ℕ, Bool, true, List, Some, None, Option}
-use Rattle.graphs.specs.Graph.{Graph, Sound}
+use Rattle.std.proofs.Common.{Some, None}
 use Rattle.placements.proofs.Orders.{answers_unique}
-use Rattle.filters.specs.Filter.{Meaning, Lawful, shaped}
 use Rattle.search.specs.Walk.{setting, walk}
 use Rattle.search.specs.Found.{Sought, SoughtAfter, FiltersAlike}
 use Rattle.search.proofs.Whole.{finds_first, finds_next}

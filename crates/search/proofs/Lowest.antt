@@ -1,5 +1,5 @@
 -- A row taken apart from its lowest bay. Assumes nothing.
-use Rattle.std.proofs.Common.{◌≡◌, ℕ, zero, suc, ◌-◌, ◌/◌, ◌%◌, ◌^◌, ◌<◌, Bool, true, false, not, ◌&&◌, eqb, sym, refl, ap, ◌∙◌, inl, inr, arith}
+use Rattle.std.proofs.Common.{◌≡◌, ℕ, zero, suc, ◌-◌, ◌/◌, ◌%◌, ◌^◌, ◌<◌, Bool, false, not, ◌&&◌, eqb, sym, ap, ◌∙◌, inl, inr, arith}
 use native.Mathlib.Nat.{pow-succ'}
 use lib.Bits.{bit_and}
 use lib.Count.{count_trailing_zeros, under}

@@ -1,5 +1,5 @@
 -- A joint table by its set bits. Assumes nothing.
-use Rattle.std.specs.Prelude.{◌≡◌, ℕ, ◌<◌, true, false, List, length, slice_index}
+use Rattle.std.specs.Prelude.{◌≡◌, ℕ, ◌<◌, true, List, length, slice_index}
 use Rattle.graphs.specs.Rows.{bit}
 
 -- row a may hold b: b is another node of the table, and its row holds a

@@ -1,7 +1,7 @@
 -- Parts that are put together of exact parts are exact. Assumes nothing.
-use Rattle.std.proofs.Common.{◌≡◌, ℕ, ◌+◌, ◌<◌, ◌≤◌, Bool, true, false, cond, ltb, List, [], ◌∷◌, ◌++◌, length, get_or, take, drop, Ok, Err, Result, sym, refl, ap, ◌∙◌, subst, inl, inr, append_assoc, append-nil, arith, length-append, length-drop}
-use Rattle.std.proofs.lemmas.List.{append_cancel_left, drop_all, drop_at, drop-drop, get_or-drop, get_or-take, get_or_past, length-take-le, length-take, nil_from_length, take-append-drop, take_at}
-use Rattle.std.proofs.lemmas.Bool.{cases_Bool, cases_lt, cond-false, cond-true, le-ltb, lt-ltb, ltb-false}
+use Rattle.std.proofs.Common.{◌≡◌, ℕ, ◌+◌, ◌<◌, ◌≤◌, Bool, true, false, cond, ltb, List, [], ◌∷◌, ◌++◌, length, take, drop, Ok, Err, Result, sym, refl, ap, ◌∙◌, subst, inl, inr, append_assoc, append-nil, arith, length-append, length-drop}
+use Rattle.std.proofs.lemmas.List.{append_cancel_left, drop_all, drop_at, drop-drop, get_or-drop, get_or-take, get_or_past, length-take-le, length-take, take-append-drop, take_at}
+use Rattle.std.proofs.lemmas.Bool.{cases_lt, cond-false, cond-true, le-ltb, ltb-false}
 use Rattle.tables.specs.Bytes.{Bytes}
 use Rattle.tables.specs.Parts.{and_then, Reader, some_bytes, after, both, checked, alone, inside, turned, Anything, Nothing, Holds, Exact}
 

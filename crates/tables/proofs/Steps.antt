@@ -1,15 +1,14 @@
 -- Reading a table, step by step: the loop over the rows, the map, the counts. Assumes nothing.
-use Rattle.std.proofs.Common.{◌≡◌, ℕ, zero, suc, ◌+◌, ◌-◌, ◌/◌, ◌%◌, ◌^◌, ◌<◌, ◌≤◌, ◌≢◌, List, [], ◌∷◌, ◌++◌, length, get_or, take, drop, set, replicate, Some, None, Ok, Err, Result, sym, refl, ap, ◌∙◌, subst, ⊎_elim, append_assoc, append-nil, arith, length-drop, length-set, le-ltb, lt-ltb}
+use Rattle.std.proofs.Common.{◌≡◌, ℕ, zero, suc, ◌+◌, ◌-◌, ◌/◌, ◌%◌, ◌^◌, ◌<◌, ◌≤◌, ◌≢◌, List, [], ◌∷◌, ◌++◌, length, get_or, take, drop, set, replicate, None, Ok, Err, Result, sym, refl, ap, ◌∙◌, subst, ⊎_elim, append_assoc, append-nil, arith, length-drop, length-set, le-ltb, lt-ltb}
 use Rattle.std.proofs.lemmas.Nat.{pow_pos}
-use Rattle.std.proofs.lemmas.List.{get_or-set_same, get_or-set_other, set_past, take_all, take_more, take_more_set}
+use Rattle.std.proofs.lemmas.List.{get_or-set_same, get_or-set_other, set_past, take_more, take_more_set}
 use Rattle.std.proofs.lemmas.Result.{IfOk-at_ok}
 use Rattle.std.proofs.lemmas.Bool.{cases_eq, cases_lt}
 use Rattle.tables.specs.declared.fault.TableFault.{TableFault}
 use Rattle.tables.specs.declared.fault.TableCause.TheVariants.{Ended}
 use Rattle.tables.specs.Bytes.{from_bytes}
 use Rattle.tables.specs.Shape.{Inside, Blank}
-use Rattle.tables.specs.Parts.{and_then}
-use Rattle.tables.specs.Read.{read_rows, behind, read_row, read_map, checked_map, lowest_past, read_count, table_from, checked_count, ill, held}
+use Rattle.tables.specs.Read.{read_rows, behind, read_row, read_map, checked_map, lowest_past, table_from, checked_count, ill, held}
 use Rattle.tables.proofs.Accepted.{Row, row_accepted}
 
 -- what was read with rows in front

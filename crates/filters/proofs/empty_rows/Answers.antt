@@ -1,4 +1,4 @@
-use Rattle.std.proofs.Common.{◌≡◌, ◌<◌, length, take, ap, ◌∙◌, arith, take_all}
+use Rattle.std.proofs.Common.{◌<◌, length, ap, ◌∙◌, arith, take_all}
 use Rattle.std.proofs.lemmas.Bool.Decides.{nat_tests}
 use Rattle.filters.specs.Filter.{empty_count}
 use Rattle.filters.specs.Counting.{empty_count_more}

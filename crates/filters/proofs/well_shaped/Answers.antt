@@ -1,5 +1,4 @@
-use Rattle.std.proofs.Common.{◌≡◌, ℕ, ◌^◌, ◌<◌, ◌≤◌, length, get_or, sym, refl, ap, ◌∙◌, subst, arith, pow_mono, below_more}
-use Rattle.graphs.specs.Graph.{Graph}
+use Rattle.std.proofs.Common.{ℕ, ◌^◌, ◌<◌, ◌≤◌, get_or, sym, ◌∙◌, subst, arith, pow_mono, below_more}
 use Rattle.graphs.proofs.Bits.{div_none, below_none}
 use Rattle.filters.specs.Shapes.{shaped_not, shaped_from}
 use Rattle.filters.proofs.well_shaped.Goals as goal

@@ -1,4 +1,4 @@
-use Rattle.std.proofs.Common.{◌≡◌, Bool, sym, ap, ◌∙◌, ap₂, arith}
+use Rattle.std.proofs.Common.{Bool, sym, ap, ◌∙◌, ap₂, arith}
 use Rattle.graphs.specs.Rows.{bit}
 use Rattle.placements.specs.Agreement.{half}
 use Rattle.placements.proofs.Masks.{bit_full, bit_inverse}

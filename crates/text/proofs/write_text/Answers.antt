@@ -1,4 +1,4 @@
-use Rattle.std.proofs.Common.{◌≡◌, sym, ◌∙◌, arith, rules}
+use Rattle.std.proofs.Common.{sym, ◌∙◌}
 use Rattle.text.proofs.Lay.{lay_nil, lay_more, lay_all}
 use Rattle.text.proofs.write_text.Goals as goal
 

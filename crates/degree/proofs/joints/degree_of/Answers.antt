@@ -1,4 +1,4 @@
-use Rattle.std.proofs.Common.{◌≡◌, ℕ, ◌<◌, sym, ◌∙◌, subst}
+use Rattle.std.proofs.Common.{ℕ, ◌<◌, sym, ◌∙◌, subst}
 use Rattle.graphs.specs.Graph.{Graph}
 use Rattle.degree.specs.Degrees.{degree_full, degree_less}
 use Rattle.degree.proofs.joints.degree_of.Goals as goal

@@ -1,4 +1,4 @@
-use Rattle.std.proofs.Common.{◌≡◌, ℕ, Bool, ◌&&◌, ap, ◌∙◌, arith}
+use Rattle.std.proofs.Common.{◌≡◌, ℕ, ◌&&◌, ap, ◌∙◌, arith}
 use lib.Bits.{bit_and}
 use lib.Count.{ones}
 use Rattle.graphs.specs.Rows.{bit}

@@ -1,4 +1,4 @@
-use Rattle.std.proofs.Common.{ℕ, ltb, get_or, arith}
+use Rattle.std.proofs.Common.{ltb, get_or, arith}
 use Rattle.graphs.specs.Graph.{Graph}
 use Rattle.graphs.proofs.Rows.{row_is}
 use Rattle.degree.specs.Degree.{degree_within, all_nodes}

@@ -1,4 +1,4 @@
-use Rattle.std.proofs.Common.{◌≡◌, ℕ, ◌+◌, ◌-◌, ◌<◌, ◌≤◌, Bool, true, not, ◌&&◌, ◌||◌, ltb, length, get_or, sym, refl, ap, ◌∙◌, arith}
+use Rattle.std.proofs.Common.{◌≡◌, ℕ, ◌+◌, ◌-◌, ◌≤◌, ltb, length, get_or, sym, ap, ◌∙◌, arith}
 use lib.Count.{ones}
 use Rattle.std.proofs.lemmas.Bool.{and_parts, cond-false}
 use Rattle.graphs.specs.Rows.{bit, row_of}

@@ -1,7 +1,7 @@
-use Rattle.std.proofs.Common.{◌≡◌, ℕ, ◌<◌, Bool, true, false, ◌&&◌, ltb, sym, refl, ap, ◌∙◌, arith}
+use Rattle.std.proofs.Common.{◌≡◌, ℕ, ◌<◌, ◌&&◌, ltb, sym, ap, ◌∙◌, arith}
 use Rattle.graphs.specs.Graph.{Graph}
 use Rattle.graphs.specs.Rows.{bit}
-use Rattle.graphs.proofs.Rows.{row_is, Upto, upto_none, upto_set, upto_pass}
+use Rattle.graphs.proofs.Rows.{row_is, upto_none, upto_set, upto_pass}
 use Rattle.graphs.proofs.Source.row.Goals as goal
 use Rattle.graphs.proofs.Source.row.Goals.{then-joined, else-joined}
 

@@ -1,4 +1,4 @@
-use Rattle.std.proofs.Common.{not, ◌&&◌}
+use Rattle.std.proofs.Common.{◌&&◌}
 use Rattle.graphs.specs.Rows.{pairs}
 use Rattle.graphs.proofs.PairSets.{Filled}
 use Rattle.graphs.proofs.pairs.common.Given as goal

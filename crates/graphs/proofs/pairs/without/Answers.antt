@@ -1,6 +1,5 @@
-use Rattle.std.proofs.Common.{◌≡◌, ℕ, ◌^◌, ◌<◌, Bool, not, ◌&&◌, length, get_or, sym, ap, ◌∙◌, arith, rules}
+use Rattle.std.proofs.Common.{◌≡◌, ◌^◌, ◌<◌, Bool, not, ◌&&◌, length, get_or, ap, arith, rules}
 use Rattle.graphs.specs.Rows.{pairs}
-use Rattle.graphs.proofs.Bits.{bit_of_and}
 use Rattle.graphs.proofs.PairSets.{filled_more, filled_all, past_table, bit_without}
 use Rattle.graphs.proofs.pairs.without.Goals as goal
 

@@ -1,9 +1,9 @@
-use Rattle.std.proofs.Common.{◌≡◌, ℕ, ◌+◌, ◌-◌, ◌*◌, ◌<◌, ◌≤◌, List, length, get_or, take, drop, Ok, Err, sym, ap, ◌∙◌, arith, length-drop}
+use Rattle.std.proofs.Common.{ℕ, ◌+◌, ◌-◌, ◌*◌, ◌≤◌, List, length, take, drop, Ok, sym, ap, ◌∙◌, arith}
 use Rattle.std.proofs.lemmas.List.{take_rest}
 use Rattle.tables.specs.Parts.{some_bytes}
 use Rattle.jobs.specs.declared.fault.JobFault.TheVariants.{Ended}
 use Rattle.jobs.specs.Form.{heights_of}
-use Rattle.jobs.proofs.Heights.{Filled, filled_none, filled_more, height_at, heights_filled}
+use Rattle.jobs.proofs.Heights.{filled_none, filled_more, heights_filled}
 use Rattle.jobs.proofs.Reading.{bytes_fail, bytes_done, turned_fails, turned_done, length_part}
 use Rattle.jobs.proofs.read.read_heights.Goals as goal
 

@@ -1,7 +1,6 @@
-use Rattle.std.proofs.Common.{◌≡◌, length, take, sym, ap, ◌∙◌, arith}
+use Rattle.std.proofs.Common.{length, sym, ap, arith}
 use Rattle.std.proofs.lemmas.Result.{err_from_is_err_and}
 use Rattle.tables.specs.Bytes.{Bytes}
-use Rattle.tables.specs.Form.{view}
 use Rattle.jobs.proofs.Jobs.{job_exact}
 use Rattle.jobs.proofs.Steps.{head_fails, arrangement_fails, room_fails, kinds_fail, heights_fail, plan_fails, sizes_fail, rest_done, rest_fails, job_done, job_lawful, plan_behind}
 use Rattle.jobs.proofs.read.read_job.Goals as goal

@@ -1,7 +1,7 @@
-use Rattle.std.proofs.Common.{◌≡◌, ℕ, ◌+◌, ◌-◌, ◌<◌, ◌≤◌, List, length, get_or, take, drop, Ok, Err, sym, refl, ap, ◌∙◌, arith, length-drop}
+use Rattle.std.proofs.Common.{ℕ, ◌+◌, ◌-◌, ◌≤◌, List, length, take, drop, Ok, sym, refl, ap, ◌∙◌, arith}
 use Rattle.std.proofs.lemmas.List.{take_rest}
 use Rattle.jobs.specs.declared.fault.JobFault.TheVariants.{Ended}
-use Rattle.jobs.proofs.Heights.{Filled, filled_none, filled_more, kinds_filled}
+use Rattle.jobs.proofs.Heights.{filled_none, filled_more, kinds_filled}
 use Rattle.jobs.proofs.Reading.{bytes_fail, bytes_done, length_part}
 use Rattle.jobs.proofs.read.read_kinds.Goals as goal
 

@@ -1,4 +1,4 @@
-use Rattle.std.proofs.Common.{◌≡◌, sym, refl, ap, ◌∙◌, arith}
+use Rattle.std.proofs.Common.{refl, ap, ◌∙◌, arith}
 use Rattle.std.proofs.lemmas.List.{take_rest}
 use Rattle.listings.specs.Text.{refusal_text}
 use Rattle.listings.proofs.Answering.{one_text, plan_inside, answer_listed, answer_refused}

@@ -1,10 +1,9 @@
-use Rattle.std.proofs.Common.{◌≡◌, ℕ, ◌+◌, ◌-◌, ◌*◌, ◌<◌, ◌≤◌, Bool, true, false, ◌&&◌, ltb, List, length, get_or, take, sym, refl, ap, ◌∙◌, subst, arith}
+use Rattle.std.proofs.Common.{◌≡◌, ℕ, ◌+◌, ◌-◌, ◌<◌, ◌≤◌, Bool, false, ◌&&◌, ltb, List, length, get_or, take, sym, refl, ap, subst, arith}
 use Rattle.std.proofs.lemmas.Bool.{and_left, and_right, le-ltb}
 use Rattle.jobs.specs.Form.{view}
-use Rattle.plans.specs.declared.plan.Plan.{Plan}
 use Rattle.listings.specs.Text.{line, Wrote}
 use Rattle.listings.proofs.Going.{At, seek_at, further_at}
-use Rattle.listings.proofs.Listing.{Written, written_none, written_more, written_all, near, line_few, line_low}
+use Rattle.listings.proofs.Listing.{written_none, written_more, written_all, near, line_few, line_low}
 use Rattle.listings.proofs.Taking.{taken_as}
 use Rattle.listings.proofs.list.write_listing.Goals as goal
 use Rattle.listings.proofs.list.write_listing.Goals.{then-loop-found-test+else-listed-lt-MOST, else-loop-found-test}

@@ -1,4 +1,4 @@
-use Rattle.std.proofs.Common.{◌≡◌, ◌∷◌, decimal, sym, ap, ◌∙◌, arith}
+use Rattle.std.proofs.Common.{◌∷◌, decimal, sym, ap, ◌∙◌, arith}
 use Rattle.listings.proofs.Writing.{then, wrote_same, wrote_long, numbered_first, numbered_later}
 use Rattle.listings.proofs.put.write_bay.Goals as goal
 

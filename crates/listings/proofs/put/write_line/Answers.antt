@@ -1,7 +1,7 @@
-use Rattle.std.proofs.Common.{◌≡◌, [], ◌∷◌, ◌++◌, length, take, sym, ap, ◌∙◌, arith}
+use Rattle.std.proofs.Common.{[], ◌∷◌, ◌++◌, sym, ap, arith}
 use Rattle.std.proofs.lemmas.List.{take_all}
 use Rattle.listings.specs.Text.{spaced}
-use Rattle.listings.proofs.Writing.{then, wrote_nothing, wrote_same, wrote_long, spaced_more, front_short}
+use Rattle.listings.proofs.Writing.{then, wrote_nothing, wrote_same, spaced_more, front_short}
 use Rattle.listings.proofs.put.write_line.Goals as goal
 
 pub loop-u-init : goal.loop-u-init

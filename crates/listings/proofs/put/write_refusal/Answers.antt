@@ -1,4 +1,4 @@
-use Rattle.std.proofs.Common.{◌≡◌, [], ◌∷◌, ◌++◌, decimal, ap, ◌∙◌, arith}
+use Rattle.std.proofs.Common.{decimal, ap, ◌∙◌, arith}
 use Rattle.listings.proofs.Writing.{then, wrote_same, wrote_long}
 use Rattle.listings.proofs.put.write_refusal.Goals as goal
 

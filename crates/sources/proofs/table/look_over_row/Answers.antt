@@ -1,5 +1,4 @@
 use Rattle.std.proofs.Common.{arith}
-use lib.Count.{count_trailing_zeros}
 use Rattle.sources.proofs.SetBits.{tested_more, tested_all, tested_fails}
 use Rattle.std.proofs.lemmas.Result.{err_from_is_err_and}
 use Rattle.sources.proofs.table.look_over_row.Goals as goal

@@ -1,7 +1,6 @@
-use Rattle.std.proofs.Common.{◌≡◌, ℕ, ◌+◌, ◌-◌, ◌*◌, ◌%◌, ◌<◌, ◌≤◌, Bool, true, false, ◌&&◌, ◌||◌, eqb, ltb, leb, sym, ap, ◌∙◌, arith}
+use Rattle.std.proofs.Common.{ℕ, ◌+◌, ◌-◌, ◌*◌, ◌%◌, Bool, ◌&&◌, ◌||◌, eqb, ltb, leb, ap, ◌∙◌, arith}
 use Rattle.std.proofs.lemmas.Bool.{ltb-true}
 use Rattle.graphs.specs.Rows.{bit}
-use Rattle.graphs.specs.WallGrid.{wall_joined}
 use Rattle.graphs.proofs.Bits.{bit_none}
 use Rattle.sources.proofs.Grids.{past_count}
 use Rattle.graphs.proofs.Walls.{le_wall, right_below, wall_row}

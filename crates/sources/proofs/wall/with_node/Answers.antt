@@ -1,4 +1,4 @@
-use Rattle.std.proofs.Common.{◌≡◌, Bool, true, false, ◌&&◌, ◌||◌, eqb, sym, ap, ◌∙◌}
+use Rattle.std.proofs.Common.{Bool, ◌&&◌, ◌||◌, eqb, sym, ap, ◌∙◌}
 use Rattle.graphs.specs.Rows.{bit}
 use Rattle.graphs.proofs.Walls.{put_on}
 use Rattle.sources.proofs.wall.with_node.Goals as goal

@@ -1,4 +1,4 @@
-use Rattle.std.proofs.Common.{◌≡◌, ◌≤◌, length, ◌∙◌, arith, ltb-false}
+use Rattle.std.proofs.Common.{◌≤◌, length, ◌∙◌, arith, ltb-false}
 use Rattle.std.proofs.lemmas.List.{take_rest}
 use Rattle.tables.proofs.Words.{le_8}
 use Rattle.tables.proofs.Steps.{map_held}

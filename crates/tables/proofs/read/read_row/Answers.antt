@@ -1,4 +1,4 @@
-use Rattle.std.proofs.Common.{◌≡◌, ◌≤◌, length, IfOk, Ok, Err, Result, sym, ap, ◌∙◌, arith, rules, ltb-false, ltb-true, le-ltb}
+use Rattle.std.proofs.Common.{◌≤◌, length, IfOk, Ok, Err, Result, ap, ◌∙◌, arith, ltb-false, le-ltb}
 use Rattle.tables.specs.Read.{checked_row}
 use Rattle.tables.proofs.Words.{le_8}
 use Rattle.tables.proofs.read.read_row.Goals as goal

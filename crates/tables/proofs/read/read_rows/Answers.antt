@@ -1,8 +1,8 @@
-use Rattle.std.proofs.Common.{◌≡◌, ◌+◌, ◌-◌, length, sym, refl, ap, ◌∙◌, arith, rules}
+use Rattle.std.proofs.Common.{◌≡◌, ◌+◌, ◌-◌, length, sym, refl, ap, ◌∙◌, arith}
 use Rattle.std.proofs.lemmas.Result.{err_from_is_err_and}
 use Rattle.std.proofs.lemmas.List.{take_rest}
 use Rattle.tables.specs.Read.{held, read_rows}
-use Rattle.tables.proofs.Steps.{Going, going_skip, going_stored, going_refused, going_done, resumed_none, zeros, zeros_inside}
+use Rattle.tables.proofs.Steps.{going_skip, going_stored, going_refused, going_done, resumed_none, zeros, zeros_inside}
 use Rattle.tables.proofs.read.read_rows.Goals as goal
 use Rattle.tables.proofs.read.read_rows.Goals.{then-left-eq1+in_ok-bits, else-left-eq1}
 

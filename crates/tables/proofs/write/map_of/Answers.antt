@@ -1,4 +1,3 @@
-use Rattle.std.proofs.Common.{arith, rules}
 use Rattle.tables.proofs.Putting.{map_end, map_down_zero, map_down_some}
 use Rattle.tables.proofs.write.map_of.Goals as goal
 

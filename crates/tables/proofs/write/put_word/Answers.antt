@@ -1,4 +1,4 @@
-use Rattle.std.proofs.Common.{◌≡◌, sym, ◌∙◌, rules}
+use Rattle.std.proofs.Common.{sym, ◌∙◌, rules}
 use Rattle.tables.proofs.Putting.{byte_more, byte_done}
 use Rattle.tables.proofs.write.put_word.Goals as goal
 

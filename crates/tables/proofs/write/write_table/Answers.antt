@@ -1,6 +1,6 @@
-use Rattle.std.proofs.Common.{◌≡◌, ℕ, List, Ok, Err, subst, arith}
+use Rattle.std.proofs.Common.{ℕ, List, Ok, Err, subst, arith}
 use Rattle.tables.specs.declared.fault.SaveFault.TheVariants.{Short}
-use Rattle.tables.specs.Form.{Form, view}
+use Rattle.tables.specs.Form.{view}
 use Rattle.tables.specs.Saved.{Saved}
 use Rattle.tables.specs.Written.{table_bytes}
 use Rattle.tables.proofs.Saving.{saved_short, saved_whole, saved_back}

@@ -1,6 +1,6 @@
-use Rattle.std.proofs.Common.{◌≡◌, ap, ◌∙◌, arith}
+use Rattle.std.proofs.Common.{ap, ◌∙◌, arith}
 use Rattle.graphs.specs.Graph.{Graph}
-use Rattle.filters.specs.Filter.{Meaning, pair_count}
+use Rattle.filters.specs.Filter.{pair_count}
 use Rattle.filters.specs.Shapes.{taken_few}
 use Rattle.filters.proofs.chain.ThenFilter.apply.Goals as goal
 

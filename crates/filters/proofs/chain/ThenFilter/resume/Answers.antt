@@ -1,6 +1,4 @@
-use Rattle.std.proofs.Common.{◌≡◌, ap, ◌∙◌, arith}
-use Rattle.graphs.specs.Graph.{Graph}
-use Rattle.filters.specs.Filter.{Meaning, pair_count}
+use Rattle.std.proofs.Common.{◌∙◌, arith}
 use Rattle.filters.specs.Laws.{then_resumes, then_applies}
 use Rattle.filters.proofs.chain.ThenFilter.resume.Goals as goal
 

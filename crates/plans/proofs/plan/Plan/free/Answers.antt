@@ -1,4 +1,4 @@
-use Rattle.std.proofs.Common.{ℕ, ◌-◌, ◌*◌, ◌%◌, ◌^◌, ◌<◌, length, get_or, sym, refl, arith, rules}
+use Rattle.std.proofs.Common.{◌-◌, ◌*◌, ◌%◌, ◌^◌, ◌<◌, length, get_or, sym, refl, arith, rules}
 use lib.Bits.{and_le_l}
 use Rattle.plans.proofs.Striking.{free_step, put_inside, put_blank}
 use Rattle.plans.proofs.plan.Plan.free.Goals as goal

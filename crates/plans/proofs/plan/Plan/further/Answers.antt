@@ -1,9 +1,9 @@
-use Rattle.std.proofs.Common.{◌≡◌, ℕ, ◌-◌, ◌*◌, ◌%◌, ◌^◌, ◌<◌, ◌≤◌, List, length, get_or, take, Some, None, Err, sym, refl, ap, ◌∙◌, subst, arith, rules}
+use Rattle.std.proofs.Common.{◌≡◌, ℕ, ◌-◌, ◌≤◌, List, length, take, Some, Err, sym, refl, ap, ◌∙◌, subst, rules}
 use Rattle.search.specs.Walk.{setting}
 use Rattle.ledgers.specs.Wanted.{Fair}
 use Rattle.ledgers.specs.Ledger.{open_pairs, no_last}
 use Rattle.ledgers.specs.Answered.{tries_in, Open}
-use Rattle.plans.specs.Step.{view, Same, shortened}
+use Rattle.plans.specs.Step.{view, shortened}
 use Rattle.plans.proofs.Searching.{shape, further_shape, Got, got, lost, not_ill, open_ready, further_looks, found_step, lost_step, unfitted_further, other_further}
 use Rattle.plans.proofs.plan.Plan.further.Goals as goal
 use Rattle.plans.proofs.plan.Plan.further.Goals.{then-count-self-via-then-count-self, then-count-self-via-else-count-self+then-count-self-2}

@@ -1,4 +1,4 @@
-use Rattle.std.proofs.Common.{◌≡◌, ℕ, ◌<◌, ◌≤◌, cond, ltb, List, length, get_or, sym, refl, ap, ◌∙◌, subst, arith}
+use Rattle.std.proofs.Common.{◌≡◌, ℕ, cond, ltb, List, length, get_or, sym, ap, ◌∙◌, subst, arith}
 use Rattle.tables.specs.Bytes.{Bytes}
 use Rattle.tables.specs.Shape.{Inside, Blank}
 use Rattle.tables.specs.Form.{view as form_in}

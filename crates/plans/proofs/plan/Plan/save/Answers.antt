@@ -1,4 +1,4 @@
-use Rattle.std.proofs.Common.{◌≡◌, ℕ, ◌-◌, ◌≤◌, length, take, ap, arith, rules}
+use Rattle.std.proofs.Common.{◌≡◌, ◌-◌, ◌≤◌, length, take, ap, arith, rules}
 use Rattle.plans.proofs.Opening.{saved_table, save_ok, save_err}
 use Rattle.plans.proofs.plan.Plan.save.Goals as goal
 

@@ -1,7 +1,6 @@
-use Rattle.std.proofs.Common.{◌≡◌, ℕ, ◌-◌, ◌*◌, ◌%◌, ◌^◌, ◌<◌, ◌≤◌, List, length, get_or, take, Some, None, Err, sym, refl, ap, ◌∙◌, subst, arith, rules}
+use Rattle.std.proofs.Common.{◌≤◌, length, None, Err, sym, refl, ap, ◌∙◌, rules}
 use Rattle.search.specs.Walk.{setting}
 use Rattle.ledgers.specs.Wanted.{Fair}
-use Rattle.plans.specs.Step.{view, Same, shortened}
 use Rattle.plans.proofs.Searching.{shape, got, lost, not_ill, open_ready, seek_looks, found_step, lost_step, unfitted_seek}
 use Rattle.plans.proofs.plan.Plan.seek.Goals as goal
 

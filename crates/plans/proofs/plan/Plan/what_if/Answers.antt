@@ -1,7 +1,6 @@
-use Rattle.std.proofs.Common.{◌≡◌, ℕ, ◌-◌, ◌*◌, ◌%◌, ◌^◌, ◌<◌, ◌≤◌, List, length, get_or, take, Some, None, Err, sym, refl, ap, ◌∙◌, subst, arith, rules}
+use Rattle.std.proofs.Common.{◌≡◌, ◌*◌, ◌%◌, ◌^◌, ◌<◌, ◌≤◌, length, get_or, None, Err, sym, refl, ap, ◌∙◌, subst, rules}
 use Rattle.search.specs.Walk.{setting}
 use Rattle.ledgers.specs.Wanted.{Fair}
-use Rattle.plans.specs.Step.{view, Same, shortened}
 use lib.Bits.{bit_and}
 use Rattle.std.proofs.lemmas.List.{set-set, set-get_or}
 use Rattle.tables.specs.Shape.{Inside, Blank}
