@@ -1,6 +1,6 @@
 /* PlanBench for programs in C.
  *
- * Build the library with `rt staticlib listings`, then link your program with target/staticlib/liblistings.a:
+ * Build the library with `tools/build_c_library`, then link your program with target/staticlib/liblistings.a:
  *
  *     gcc -Iinclude examples/print_job.c target/staticlib/liblistings.a -o print_job
  *

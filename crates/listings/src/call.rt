@@ -1,4 +1,4 @@
-// The call for programs in C.
+// The job call, which the crate for programs in C exports.
 ghost use Rattle.std.specs.Prelude.{◌≡◌, ◌<◌, ◌≤◌, length};
 ghost use Rattle.listings.specs.JobText.{Declined, Answered, OneText};
 
@@ -20,8 +20,7 @@ pub struct JobAnswer {
 const ROOM: usize = 1536;
 
 // Writes the text of the job that the input holds.
-#[unsafe(no_mangle)]
-pub extern "C" fn planbench_job(input: &[u8], output: &mut [u8]) -> JobAnswer
+pub fn planbench_job(input: &[u8], output: &mut [u8]) -> JobAnswer
     ensures short { length output.old < 1536 → Declined output.old output.new result }
     ensures enough { 1536 ≤ length output.old → Answered input.now output.old output.new result }
     ensures within { result.written ≤ 1536 }
