@@ -19,8 +19,7 @@ extern "C" {
 /* The least length of the output buffer. No text is longer. */
 #define PLANBENCH_OUTPUT 1536
 
-/* The most that a job can need: 3 bytes, two tables of 64 full rows, 64 kinds, 64 heights, a plan of 24 full rows. A longer input
- * is no error of the call; it is a job with bytes left over. */
+/* The most units and bays of a job that is listed. An input of any length may be handed over; what is no job is told in the text. */
 #define PLANBENCH_UNITS 24
 #define PLANBENCH_BAYS 64
 
