@@ -10,6 +10,22 @@ ghost use Rattle.placements.specs.Tests.{unit_test};
 
 use graphs::Source;
 
+// What placements are sought for: the arrangement, the room, and whether units that are not joined must stand on bays that are not
+// joined.
+#[derive(Drop)]
+pub struct Problem<'a, A, R> {
+    pub arrangement: &'a A,
+    pub room: &'a R,
+    pub strict: bool,
+}
+
+// How two units are joined: the first to the second, and the second to the first.
+#[derive(Clone, Copy, PartialEq, Eq, Debug)]
+pub struct Joined {
+    pub out: bool,
+    pub back: bool,
+}
+
 // The bays that one direction of a joint leaves: where the units are joined those of the row, else all, but in strict use those
 // outside the row.
 fn one_way(row: u64, joined: bool, strict: bool) -> u64
@@ -24,16 +40,6 @@ fn one_way(row: u64, joined: bool, strict: bool) -> u64
     }
 }
 
-// The bays for one unit that agree with the bay `c` of another: `out` says whether the first unit is joined to the second, `back`
-// whether the second is joined to the first.
-pub fn agreeing<R: Source>(room: &R, out: bool, back: bool, strict: bool, c: usize) -> u64
-    ensures { result ≡ row_of (R.Source.graph room.now).count (λ b. agrees_if (R.Source.graph room.now) out back strict b c) }
-{
-    let all = u64::MAX >> (64 - room.count());
-    let others = if c < 64 { all & !(1 << c) } else { all };
-    others & one_way(room.column(c), out, strict) & one_way(room.row(c), back, strict)
-}
-
 // Whether the bays suit one direction of a joint.
 fn one_way_suits(units: bool, bays: bool, strict: bool) -> bool
     ensures { result ≡ half strict units bays }
@@ -41,64 +47,66 @@ fn one_way_suits(units: bool, bays: bool, strict: bool) -> bool
     if units { bays } else { !(strict & bays) }
 }
 
-// Whether the pairs (u, b) and (v, c) of two different units agree.
-fn agree<A: Source, R: Source>(
-    arrangement: &A,
-    room: &R,
-    strict: bool,
-    u: usize,
-    b: usize,
-    v: usize,
-    c: usize,
-) -> bool
-    ensures { result ≡ agrees (A.Source.graph arrangement.now) (R.Source.graph room.now) strict u b v c }
-{
-    let out = one_way_suits(arrangement.joined(u, v), room.joined(b, c), strict);
-    let back = one_way_suits(arrangement.joined(v, u), room.joined(c, b), strict);
-    (b != c) & (out & back)
-}
+impl<'a, A: Source, R: Source> Problem<'a, A, R> {
+    // The bays for one unit that agree with the bay `c` of another.
+    pub fn agreeing(&self, joined: Joined, c: usize) -> u64
+        ensures { result ≡ row_of (R.Source.graph self.now.room.now).count (λ b. agrees_if (R.Source.graph self.now.room.now) joined.out joined.back self.now.strict b c) }
+    {
+        let all = u64::MAX >> (64 - self.room.count());
+        let others = if c < 64 { all & !(1 << c) } else { all };
+        let out = one_way(self.room.column(c), joined.out, self.strict);
+        let back = one_way(self.room.row(c), joined.back, self.strict);
+        others & out & back
+    }
 
-// Whether the bay of the unit `u` is in the room and agrees with the bay of each other unit.
-fn suits<A: Source, R: Source>(
-    arrangement: &A,
-    room: &R,
-    strict: bool,
-    bays: &[u8],
-    u: usize,
-) -> bool
-    requires { (u < length bays.now) × (length bays.now ≡ (A.Source.graph arrangement.now).count) }
-    ensures { result ≡ unit_test (A.Source.graph arrangement.now) (R.Source.graph room.now) strict bays.now u }
-{
-    let b = bays[u] as usize;
-    for (v, c) in bays.iter().enumerate() {
-        let agreed = (u == v) | agree(arrangement, room, strict, u, b, v, *c as usize);
-        if !agreed {
+    // Whether the pairs (u, b) and (v, c) of two different units agree.
+    fn agree(&self, u: usize, b: usize, v: usize, c: usize) -> bool
+        ensures { result ≡ agrees (A.Source.graph self.now.arrangement.now) (R.Source.graph self.now.room.now) self.now.strict u b v c }
+    {
+        let out = one_way_suits(
+            self.arrangement.joined(u, v),
+            self.room.joined(b, c),
+            self.strict,
+        );
+        let back = one_way_suits(
+            self.arrangement.joined(v, u),
+            self.room.joined(c, b),
+            self.strict,
+        );
+        (b != c) & (out & back)
+    }
+
+    // Whether the bay of the unit `u` is in the room and agrees with the bay of each other unit.
+    fn suits(&self, bays: &[u8], u: usize) -> bool
+        requires { (u < length bays.now) × (length bays.now ≡ (A.Source.graph self.now.arrangement.now).count) }
+        ensures { result ≡ unit_test (A.Source.graph self.now.arrangement.now) (R.Source.graph self.now.room.now) self.now.strict bays.now u }
+    {
+        let b = bays[u] as usize;
+        for (v, c) in bays.iter().enumerate() {
+            let agreed = (u == v) | self.agree(u, b, v, *c as usize);
+            if !agreed {
+                return false;
+            }
+        }
+        b < self.room.count()
+    }
+
+    // Whether the list, one bay a unit, is a placement of the arrangement in the room. In open use that is a monomorphism of the
+    // graphs, in strict use an isomorphism onto the subgraph that its bays induce in the room.
+    pub fn is_placement(&self, bays: &[u8]) -> bool
+        ensures decides { Decides result (Placement (A.Source.graph self.now.arrangement.now) (R.Source.graph self.now.room.now) self.now.strict bays.now) }
+        ensures agreement { AgreementOnce }
+        ensures monomorphism { OpenIsMono }
+        ensures induced { StrictIsInduced }
+    {
+        if bays.len() != self.arrangement.count() {
             return false;
         }
-    }
-    b < room.count()
-}
-
-// Whether the list, one bay a unit, is a placement of the arrangement in the room. In open use that is a monomorphism of the
-// graphs, in strict use an isomorphism onto the subgraph that its bays induce in the room.
-pub fn is_placement<A: Source, R: Source>(
-    arrangement: &A,
-    room: &R,
-    strict: bool,
-    bays: &[u8],
-) -> bool
-    ensures decides { Decides result (Placement (A.Source.graph arrangement.now) (R.Source.graph room.now) strict bays.now) }
-    ensures agreement { AgreementOnce }
-    ensures monomorphism { OpenIsMono }
-    ensures induced { StrictIsInduced }
-{
-    if bays.len() != arrangement.count() {
-        return false;
-    }
-    for u in 0..bays.len() {
-        if !suits(arrangement, room, strict, bays, u) {
-            return false;
+        for u in 0..bays.len() {
+            if !self.suits(bays, u) {
+                return false;
+            }
         }
+        true
     }
-    true
 }

@@ -6,7 +6,7 @@ use Rattle.placements.specs.Placement.{Placement}
 use Rattle.placements.specs.Tests.{each_below, unit_test, placement_test}
 use Rattle.placements.proofs.Morphisms.{agreement_once, open_is_mono, strict_is_induced}
 use Rattle.placements.proofs.Deciding.{each_none, each_more, each_stops, placement_decides}
-use Rattle.placements.proofs.is_placement.Goals as goal
+use Rattle.placements.proofs.Problem.is_placement.Goals as goal
 
 -- the three ways out: another length, a unit that does not suit, all suit
 module _ (a r : Graph) (strict : Bool) (w : List ℕ) where
@@ -30,7 +30,7 @@ module _ (a r : Graph) (strict : Bool) (w : List ℕ) where
 
 pub returns-then-bays-count : goal.returns-then-bays-count
 returns-then-bays-count g c = record {
-  decides = other_length (g.A.Source.graph c.args.arrangement.now) (g.R.Source.graph c.args.room.now) c.args.strict c.args.bays.now
+  decides = other_length (g.A.Source.graph c.args.self.now.arrangement.now) (g.R.Source.graph c.args.self.now.room.now) c.args.self.now.strict c.args.bays.now
       (λ e. c.if-bays-count.true (e ∙ sym c.count.ensures));
   agreement = agreement_once;
   monomorphism = open_is_mono;
@@ -38,11 +38,11 @@ returns-then-bays-count g c = record {
 }
 
 pub loop-u-init : goal.loop-u-init
-loop-u-init g c = each_none (unit_test (g.A.Source.graph c.args.arrangement.now) (g.R.Source.graph c.args.room.now) c.args.strict c.args.bays.now)
+loop-u-init g c = each_none (unit_test (g.A.Source.graph c.args.self.now.arrangement.now) (g.R.Source.graph c.args.self.now.room.now) c.args.self.now.strict c.args.bays.now)
 
 pub returns-then-not-suits : goal.returns-then-not-suits
 returns-then-not-suits g c = record {
-  decides = one_unsuited (g.A.Source.graph c.args.arrangement.now) (g.R.Source.graph c.args.room.now) c.args.strict c.args.bays.now
+  decides = one_unsuited (g.A.Source.graph c.args.self.now.arrangement.now) (g.R.Source.graph c.args.self.now.room.now) c.args.self.now.strict c.args.bays.now
       c.loop-u.u (omega (arith, c.count.ensures, c.if-bays-count.false)) (sym c.suits.ensures ∙ c.if-not-suits.true);
   agreement = agreement_once;
   monomorphism = open_is_mono;
@@ -51,12 +51,12 @@ returns-then-not-suits g c = record {
 
 pub loop-u-preserved : goal.loop-u-preserved
 loop-u-preserved g c =
-    each_more (unit_test (g.A.Source.graph c.args.arrangement.now) (g.R.Source.graph c.args.room.now) c.args.strict c.args.bays.now)
+    each_more (unit_test (g.A.Source.graph c.args.self.now.arrangement.now) (g.R.Source.graph c.args.self.now.room.now) c.args.self.now.strict c.args.bays.now)
     c.loop-u.u c.loop-u.invariant (sym c.suits.ensures ∙ c.if-not-suits.false)
 
 pub returns : goal.returns
 returns g c = record {
-  decides = all_suited (g.A.Source.graph c.args.arrangement.now) (g.R.Source.graph c.args.room.now) c.args.strict c.args.bays.now
+  decides = all_suited (g.A.Source.graph c.args.self.now.arrangement.now) (g.R.Source.graph c.args.self.now.room.now) c.args.self.now.strict c.args.bays.now
       c.loop-u.u (c.if-bays-count.false ∙ c.count.ensures) (omega arith) c.loop-u.invariant;
   agreement = agreement_once;
   monomorphism = open_is_mono;
