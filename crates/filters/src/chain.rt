@@ -7,6 +7,7 @@ ghost use Rattle.filters.specs.Laws.{then_lawful};
 
 use crate::{Counts, Filter, nothing_taken};
 use graphs::Source;
+use placements::Problem;
 
 // Takes nothing away.
 #[derive(Clone, Copy)]
@@ -17,26 +18,22 @@ impl Filter for Open {
 
     ghost lawful = { Prim.search rules };
 
-    fn apply<A: Source, R: Source>(
-        &self,
-        _arrangement: &A,
-        _room: &R,
-        _strict: bool,
-        rows: &mut [u64],
-    ) -> Counts {
+    fn apply<A: Source, R: Source>(&self, _problem: &Problem<A, R>, rows: &mut [u64]) -> Counts {
         nothing_taken(rows)
     }
 }
 
-// The counts of two filters one after the other.
-fn both(first: Counts, second: Counts) -> Counts
-    requires { first.taken + second.taken < 2 ^ 64 }
-    ensures taken { result.taken ≡ first.taken + second.taken }
-    ensures empty { result.empty ≡ second.empty }
-{
-    Counts {
-        taken: first.taken + second.taken,
-        empty: second.empty,
+impl Counts {
+    // The counts of this filter and of the one after it.
+    fn then(self, second: Counts) -> Counts
+        requires { self.taken + second.taken < 2 ^ 64 }
+        ensures taken { result.taken ≡ self.taken + second.taken }
+        ensures empty { result.empty ≡ second.empty }
+    {
+        Counts {
+            taken: self.taken + second.taken,
+            empty: second.empty,
+        }
     }
 }
 
@@ -44,7 +41,7 @@ fn both(first: Counts, second: Counts) -> Counts
 fn countable(rows: &[u64]) -> bool
     ensures { result ≡ true → pair_count rows.now ≤ 1536 }
 {
-    rows.is_empty() || rows.len() <= 24
+    rows.len() <= 24
 }
 
 // Shows the second filter what the first leaves, also where the first leaves a row empty.
@@ -59,36 +56,28 @@ impl<F: Filter, G: Filter> Filter for Then<F, G> {
 
     ghost lawful = { λ s. then_lawful (F.Filter.left s.first) (G.Filter.left s.second) (F.Filter.lawful s.first) (G.Filter.lawful s.second) };
 
-    fn apply<A: Source, R: Source>(
-        &self,
-        arrangement: &A,
-        room: &R,
-        strict: bool,
-        rows: &mut [u64],
-    ) -> Counts {
-        let first = self.first.apply(arrangement, room, strict, rows);
-        let second = self.second.apply(arrangement, room, strict, rows);
-        both(first, second)
+    fn apply<A: Source, R: Source>(&self, problem: &Problem<A, R>, rows: &mut [u64]) -> Counts {
+        let first = self.first.apply(problem, rows);
+        let second = self.second.apply(problem, rows);
+        first.then(second)
     }
 
     // The second filter may have cut any row that the first left, so the first is resumed at all units. Only where it takes nothing
     // away are the rows cut from what the second left.
     fn resume<A: Source, R: Source>(
         &self,
-        arrangement: &A,
-        room: &R,
-        strict: bool,
+        problem: &Problem<A, R>,
         changed: u64,
         rows: &mut [u64],
     ) -> Counts {
         if !countable(rows) {
-            return self.apply(arrangement, room, strict, rows);
+            return self.apply(problem, rows);
         }
-        let first = self.first.resume(arrangement, room, strict, u64::MAX, rows);
+        let first = self.first.resume(problem, u64::MAX, rows);
         if first.taken == 0 {
-            return self.second.resume(arrangement, room, strict, changed, rows);
+            return self.second.resume(problem, changed, rows);
         }
-        let second = self.second.apply(arrangement, room, strict, rows);
-        both(first, second)
+        let second = self.second.apply(problem, rows);
+        first.then(second)
     }
 }

@@ -6,6 +6,7 @@ ghost use Rattle.filters.specs.Filter.{Meaning, Lawful, Counted, Resumes, shaped
 
 pub use chain::{Open, Then};
 use graphs::Source;
+use placements::Problem;
 pub use turns::{Repeated, repeat};
 
 mod chain;
@@ -23,30 +24,22 @@ pub trait Filter {
     ghost left: { Self → Meaning };
 
     // Thins out the rows, one a unit.
-    fn apply<A: Source, R: Source>(
-        &self,
-        arrangement: &A,
-        room: &R,
-        strict: bool,
-        rows: &mut [u64],
-    ) -> Counts
-        ensures rows { rows.new ≡ left self.now (A.Source.graph arrangement.now) (R.Source.graph room.now) strict rows.old }
+    fn apply<A: Source, R: Source>(&self, problem: &Problem<A, R>, rows: &mut [u64]) -> Counts
+        ensures rows { rows.new ≡ left self.now (A.Source.graph problem.now.arrangement.now) (R.Source.graph problem.now.room.now) problem.now.strict rows.old }
         ensures counts { Counted rows.old rows.new result };
 
     // Does what `apply` does to rows that were cut from rows which the filter has left, and only at the units in `changed`; a
     // filter may save work by it.
     fn resume<A: Source, R: Source>(
         &self,
-        arrangement: &A,
-        room: &R,
-        strict: bool,
+        problem: &Problem<A, R>,
         changed: u64,
         rows: &mut [u64],
     ) -> Counts
-        ensures resumes { Resumes (left self.now) (A.Source.graph arrangement.now) (R.Source.graph room.now) strict changed rows.old rows.new }
+        ensures resumes { Resumes (left self.now) (A.Source.graph problem.now.arrangement.now) (R.Source.graph problem.now.room.now) problem.now.strict changed rows.old rows.new }
         ensures counts { Counted rows.old rows.new result }
     {
-        self.apply(arrangement, room, strict, rows)
+        self.apply(problem, rows)
     }
 
     ghost lawful: { (f : Self) → Lawful (left f) };
@@ -56,13 +49,7 @@ pub trait Filter {
 pub fn empty_rows(rows: &[u64]) -> usize
     ensures { result ≡ empty_count rows.now }
 {
-    let mut empty: usize = 0;
-    for x in rows {
-        if *x == 0 {
-            empty += 1;
-        }
-    }
-    empty
+    rows.iter().filter(|row| **row == 0).count()
 }
 
 // The counts of a filter that takes nothing away from the rows.
@@ -76,18 +63,11 @@ pub fn nothing_taken(rows: &[u64]) -> Counts
 }
 
 // Whether there is one row a unit, at most 24 of them, and no row has a bit at or past the count of bays.
-pub fn well_shaped<A: Source, R: Source>(arrangement: &A, room: &R, rows: &[u64]) -> bool
-    ensures { result ≡ shaped (A.Source.graph arrangement.now) (R.Source.graph room.now) rows.now }
+pub fn well_shaped<A: Source, R: Source>(problem: &Problem<A, R>, rows: &[u64]) -> bool
+    ensures { result ≡ shaped (A.Source.graph problem.now.arrangement.now) (R.Source.graph problem.now.room.now) rows.now }
 {
-    let units = arrangement.count();
-    let bays = room.count();
-    if rows.len() != units || units > 24 {
-        return false;
-    }
-    for row in rows {
-        if bays < 64 && *row >> bays != 0 {
-            return false;
-        }
-    }
-    true
+    let bays = problem.room.count();
+    rows.len() == problem.arrangement.count()
+        && rows.len() <= 24
+        && rows.iter().all(|row| bays >= 64 || *row >> bays == 0)
 }

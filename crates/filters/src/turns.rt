@@ -6,22 +6,21 @@ ghost use Rattle.filters.specs.Laws.{repeat_lawful};
 
 use crate::{Counts, Filter};
 use graphs::Source;
+use placements::Problem;
 
 // Applies the filter until a turn takes nothing away.
 pub fn repeat<F: Filter, A: Source, R: Source>(
     filter: &F,
-    arrangement: &A,
-    room: &R,
-    strict: bool,
+    problem: &Problem<A, R>,
     rows: &mut [u64],
 ) -> Counts
-    ensures rows { rows.new ≡ repeat_meaning (F.Filter.left filter.now) (A.Source.graph arrangement.now) (R.Source.graph room.now) strict rows.old }
-    ensures settles { Settles (F.Filter.left filter.now (A.Source.graph arrangement.now) (R.Source.graph room.now) strict) rows.old rows.new }
+    ensures rows { rows.new ≡ repeat_meaning (F.Filter.left filter.now) (A.Source.graph problem.now.arrangement.now) (R.Source.graph problem.now.room.now) problem.now.strict rows.old }
+    ensures settles { Settles (F.Filter.left filter.now (A.Source.graph problem.now.arrangement.now) (R.Source.graph problem.now.room.now) problem.now.strict) rows.old rows.new }
     ensures counts { Counted rows.old rows.new result }
 {
     let mut taken: usize = 0;
     'turn: loop {
-        let turn = filter.apply(arrangement, room, strict, rows);
+        let turn = filter.apply(problem, rows);
         taken += turn.taken;
         if turn.taken == 0 {
             return Counts {
@@ -43,13 +42,7 @@ impl<F: Filter> Filter for Repeated<F> {
 
     ghost lawful = { λ s. repeat_lawful (F.Filter.left s.filter) (F.Filter.lawful s.filter) };
 
-    fn apply<A: Source, R: Source>(
-        &self,
-        arrangement: &A,
-        room: &R,
-        strict: bool,
-        rows: &mut [u64],
-    ) -> Counts {
-        repeat(&self.filter, arrangement, room, strict, rows)
+    fn apply<A: Source, R: Source>(&self, problem: &Problem<A, R>, rows: &mut [u64]) -> Counts {
+        repeat(&self.filter, problem, rows)
     }
 }

@@ -6,7 +6,7 @@ use Rattle.filters.proofs.well_shaped.Goals.{else-bays-lt64-via-then-bays-lt64+e
 
 pub returns-then-row-bays-ne0 : goal.returns-then-row-bays-ne0
 returns-then-row-bays-ne0 g c =
-    shaped_not (g.A.Source.graph c.args.arrangement.now) (g.R.Source.graph c.args.room.now) c.args.rows.now c.loop-row.row-index
+    shaped_not (g.A.Source.graph c.args.problem.now.arrangement.now) (g.R.Source.graph c.args.problem.now.room.now) c.args.rows.now c.loop-row.row-index
     (λ l. c.if-row-bays-ne0.true (div_none (get_or c.args.rows.now c.loop-row.row-index 0) c.count-bays.result
     (subst (λ (n : ℕ). get_or c.args.rows.now c.loop-row.row-index 0 < 2 ^ n) (sym c.count-bays.ensures) l)))
 
@@ -21,6 +21,6 @@ loop-row-preserved g c =
 
 pub returns : goal.returns
 returns g c =
-    shaped_from (g.A.Source.graph c.args.arrangement.now) (g.R.Source.graph c.args.room.now) c.args.rows.now
+    shaped_from (g.A.Source.graph c.args.problem.now.arrangement.now) (g.R.Source.graph c.args.problem.now.room.now) c.args.rows.now
     (c.if-rows-units.false ∙ c.count-units.ensures) (omega (arith, c.count-units.ensures))
     (λ u l. subst (λ (n : ℕ). get_or c.args.rows.now u 0 < 2 ^ n) c.count-bays.ensures (c.loop-row.invariant u (omega arith)))
