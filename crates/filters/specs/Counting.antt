@@ -1,11 +1,11 @@
 -- How many pairs rows hold, and how many of them are empty. Assumes nothing.
-use Rattle.std.specs.Prelude.{◌≡◌, ℕ, zero, suc, ◌+◌, ◌*◌, ◌/◌, ◌%◌, ◌^◌, ◌<◌, ◌≤◌, true, cond, List, [], ◌∷◌, ◌++◌, length, take, ◌==◌, count_ones, nat_lt, slice_index}
+use Rattle.std.specs.Prelude.{◌≡◌, ℕ, zero, suc, ◌+◌, ◌*◌, ◌/◌, ◌%◌, ◌^◌, ◌<◌, ◌≤◌, true, cond, List, [], ◌∷◌, length, ◌==◌, count_ones, count_by, nat_lt, refl}
 use Rattle.std.proofs.Common.{sym, ap, ◌∙◌, ⊎_elim, zero-le, arith}
 use Rattle.std.proofs.Math.Nat.{pow-succ'}
 use Rattle.std.specs.Int.Count.{ones_step}
 use Rattle.std.proofs.lemmas.Nat.{ones-le}
 use Rattle.std.proofs.lemmas.Bool.{ltb-true, eqb-true, eqb-false, and_parts, cases_Bool}
-use Rattle.std.proofs.lemmas.List.{take_more}
+use Rattle.std.proofs.lemmas.List.Sums.{sum_by-cons}
 use Rattle.graphs.specs.Rows.{bit}
 use Rattle.graphs.proofs.Bits.{bit_zero, bit_suc, bit_below, bits_below}
 use Rattle.filters.specs.Filter.{all_below, pair_count, empty_count, Inside}
@@ -61,12 +61,9 @@ pair_count_below n (x ∷ xs) e =
     let t = pair_count_below n xs p.1 in
     omega arith
 
-empty_count_push : (xs : List ℕ) (x : ℕ) → empty_count (xs ++ (x ∷ [])) ≡ empty_count xs + cond (x == 0) 1 0
-empty_count_push [] x = omega arith
-empty_count_push (y ∷ ys) x = let h = empty_count_push ys x in omega arith
-
-pub empty_count_more : (xs : List ℕ) (i : ℕ) → i < length xs → empty_count (take (i + 1) xs) ≡ empty_count (take i xs) + cond (slice_index xs i == 0) 1 0
-empty_count_more xs i h = ap empty_count (take_more xs i 0 h) ∙ empty_count_push (take i xs) (slice_index xs i)
+pub empty_count_is : (xs : List ℕ) → count_by (λ x. x == 0) xs ≡ empty_count xs
+empty_count_is [] = refl
+empty_count_is (x ∷ xs) = sum_by-cons (λ y. cond (y == 0) 1 0) x xs ∙ ap (λ (n : ℕ). cond (x == 0) 1 0 + n) (empty_count_is xs)
 
 -- equal counts
 

@@ -1,5 +1,6 @@
 -- What a filter of the bays is, and what each must show. Assumes nothing.
 use Rattle.std.specs.Prelude.{◌≡◌, ℕ, ◌+◌, ◌^◌, Bool, true, false, cond, ◌&&◌, List, [], ◌∷◌, length, ◌==◌, count_ones, nat_le, nat_lt, slice_index}
+use Rattle.std.specs.List.{list_all}
 use Rattle.graphs.specs.Rows.{bit, pairs}
 use Rattle.graphs.specs.Graph.{Graph, Sound}
 use Rattle.placements.specs.Placement.{Placement, Within}
@@ -7,8 +8,7 @@ use Rattle.filters.specs.declared.Counts.{Counts}
 
 -- no row has a bit at or past n
 abbrev pub all_below : ℕ → List ℕ → Bool
-all_below n [] = true
-all_below n (x ∷ xs) = nat_lt x (2 ^ n) && all_below n xs
+all_below n rows = list_all (λ x. nat_lt x (2 ^ n)) rows
 
 -- one row a unit, at most 24 of them, and no bit at or past the count of bays
 abbrev pub shaped : Graph → Graph → List ℕ → Bool

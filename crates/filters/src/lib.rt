@@ -67,7 +67,13 @@ pub fn well_shaped<A: Source, R: Source>(problem: &Problem<A, R>, rows: &[u64]) 
     ensures { result ≡ shaped (A.Source.graph problem.now.arrangement.now) (R.Source.graph problem.now.room.now) rows.now }
 {
     let bays = problem.room.count();
-    rows.len() == problem.arrangement.count()
-        && rows.len() <= 24
-        && rows.iter().all(|row| bays >= 64 || *row >> bays == 0)
+    if rows.len() != problem.arrangement.count() || rows.len() > 24 {
+        return false;
+    }
+    for row in rows {
+        if bays < 64 && *row >> bays != 0 {
+            return false;
+        }
+    }
+    true
 }

@@ -22,5 +22,5 @@ loop-row-preserved g c =
 pub returns : goal.returns
 returns g c =
     shaped_from (g.A.Source.graph c.args.problem.now.arrangement.now) (g.R.Source.graph c.args.problem.now.room.now) c.args.rows.now
-    (c.if-rows-units.false ∙ c.count-units.ensures) (omega (arith, c.count-units.ensures))
+    (c.if-rows-count.false ∙ c.count.ensures) (omega arith)
     (λ u l. subst (λ (n : ℕ). get_or c.args.rows.now u 0 < 2 ^ n) c.count-bays.ensures (c.loop-row.invariant u (omega arith)))

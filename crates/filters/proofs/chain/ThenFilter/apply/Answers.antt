@@ -4,8 +4,8 @@ use Rattle.filters.specs.Filter.{pair_count}
 use Rattle.filters.specs.Shapes.{taken_few}
 use Rattle.filters.proofs.chain.ThenFilter.apply.Goals as goal
 
-pub both-requires : goal.both-requires
-both-requires g c =
+pub then-requires : goal.then-requires
+then-requires g c =
     let a : Graph = g.A.Source.graph c.args.problem.now.arrangement.now in
     let r : Graph = g.R.Source.graph c.args.problem.now.room.now in
     let sr = g.R.Source.sound c.args.problem.now.room.now in

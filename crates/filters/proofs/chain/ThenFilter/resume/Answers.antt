@@ -14,8 +14,8 @@ returns-then-first-eq0 g c =
       counts = record { taken = omega (arith, c.resume-first.ensures.counts.taken, c.resume.ensures.counts.taken, c.if-first-eq0.true); empty = c.resume.ensures.counts.empty };
     }
 
-pub both-requires : goal.both-requires
-both-requires g c =
+pub then-requires : goal.then-requires
+then-requires g c =
     let few = c.countable.ensures c.if-not-countable.false in
     omega (arith, c.resume-first.ensures.counts.taken, c.apply-second.ensures.counts.taken)
 
