@@ -1,5 +1,5 @@
 -- Every run goes on with every call. Assumes nothing.
-use Rattle.std.proofs.Common.{◌≡◌, ℕ, zero, suc, ◌<◌, ◌≤◌, Bool, true, false, not, List, [], ◌∷◌, length, get_or, take, Some, None, Option, sym, refl, ap, ◌∙◌, subst, inl, inr, ⊎_elim, arith, take_all}
+use Rattle.std.proofs.Common.{◌≡◌, ℕ, zero, suc, ◌<◌, ◌≤◌, Bool, true, false, not, List, [], ◌∷◌, length, get_or, take, Some, None, Option, sym, refl, ap, ◌∙◌, subst, inl, inr, ⊎_elim, arith, take_all, pow_pos}
 use mathlib.Core.Bool.{false≢true}
 use Rattle.std.proofs.lemmas.List.{get_or_past, get_or-take}
 use Rattle.std.proofs.lemmas.Bool.{cases_lt}
@@ -18,7 +18,7 @@ use Rattle.placements.specs.Listing.{find}
 use Rattle.ledgers.proofs.Finding.{find_wanted, wanted_in, wanted_of}
 use Rattle.ledgers.proofs.Verdicts.{keeps_rule, pair_in, rooms_match, arrangements_match}
 use Rattle.ledgers.proofs.Good.{FitsIn, AnswersIn, Good, Readable, good_made}
-use Rattle.plans.specs.Bounds.{Low, bays_in}
+use Rattle.plans.specs.Bounds.{Low, numbers_in}
 use Rattle.plans.specs.Step.{fitting, shortened, view, turn, Step, Shows}
 use Rattle.plans.specs.declared.plan.Plan.{Plan}
 use Rattle.plans.proofs.Steps.{declined_step, accepted_step, done_step, same_self, of}
@@ -46,15 +46,15 @@ good_view p =
         units = none_past p.units p.struck p.blank;
         bays = none_beyond p.bays p.struck p.inside;
       };
-      fitted = fit_in p.fit;
+      fitted = fit_in p.fitted p.fitted_inside p.fitted_blank;
       last = last_in p.last p.last_low;
     }
   where
-    fit_in : (t : Bool) → FitsIn p.units p.bays (fitting t p.fitted)
-    fit_in true = (none_past p.units p.fitted p.fitted_blank, none_beyond p.bays p.fitted p.fitted_inside)
-    fit_in false = tt
+    fit_in : (o : Option (List ℕ)) → Inside p.bays (numbers_in o) → Blank p.units (numbers_in o) → FitsIn p.units p.bays (fitting o)
+    fit_in None low blank = tt
+    fit_in (Some rows) low blank = (none_past p.units rows blank, none_beyond p.bays rows low)
 
-    last_in : (o : Option (List ℕ)) → Low p.bays (bays_in o) → AnswersIn p.units p.bays (shortened p.units o)
+    last_in : (o : Option (List ℕ)) → Low p.bays (numbers_in o) → AnswersIn p.units p.bays (shortened p.units o)
     last_in None low = tt
     last_in (Some w) low = (short p.units w, low_take p.units p.bays w p.some_bays low)
 
@@ -63,18 +63,14 @@ good_view p =
 make : (m n : ℕ) (s : Pairs) (f : Fitting) (o : Option (List ℕ)) → Ranged m n s → FitsIn m n f → AnswersIn m n o → (q : Plan) × (view q ≡ of m n s f o)
 make m n s f o r fi an = (plan, λ i. of m n (strikes i) (fit_is f fi i) (last_is o an i))
   where
-    table_of : Fitting → List ℕ
-    table_of unfitted = rows_of m n no_pairs
-    table_of (fits g) = rows_of m n g
-
-    flag_of : Fitting → Bool
-    flag_of unfitted = false
-    flag_of (fits g) = true
+    table_of : Fitting → Option (List ℕ)
+    table_of unfitted = None
+    table_of (fits g) = Some (rows_of m n g)
 
     strikes : pairs (rows_of m n s) ≡ s
     strikes = pairs_back m n s r.units r.bays
 
-    fit_is : (f : Fitting) → FitsIn m n f → fitting (flag_of f) (table_of f) ≡ f
+    fit_is : (f : Fitting) → FitsIn m n f → fitting (table_of f) ≡ f
     fit_is unfitted x = refl
     fit_is (fits g) x = ap fits (pairs_back m n g x.0 x.1)
 
@@ -85,19 +81,19 @@ make m n s f o r fi an = (plan, λ i. of m n (strikes i) (fit_is f fi i) (last_i
     past : (s : Pairs) (u : ℕ) → m ≤ u → get_or (rows_of m n s) u 0 ≡ 0
     past s u le = get_or_past (rows_of m n s) u 0 (let e = rows_length m n s in omega arith)
 
-    table_low : (f : Fitting) → Inside n (table_of f)
-    table_low unfitted = rows_low m n no_pairs
-    table_low (fits g) = rows_low m n g
+    table_low : (f : Fitting) → Inside n (numbers_in (table_of f))
+    table_low unfitted u = pow_pos n
+    table_low (fits g) u = rows_low m n g u
 
-    table_blank : (f : Fitting) → Blank m (table_of f)
-    table_blank unfitted = past no_pairs
-    table_blank (fits g) = past g
+    table_blank : (f : Fitting) → Blank m (numbers_in (table_of f))
+    table_blank unfitted u le = refl
+    table_blank (fits g) u le = past g u le
 
-    last_low : (o : Option (List ℕ)) → AnswersIn m n o → Low n (bays_in o)
+    last_low : (o : Option (List ℕ)) → AnswersIn m n o → Low n (numbers_in o)
     last_low None x u = r.some_bays
     last_low (Some w) x u = x.1 u
 
-    last_blank : (o : Option (List ℕ)) → AnswersIn m n o → Blank m (bays_in o)
+    last_blank : (o : Option (List ℕ)) → AnswersIn m n o → Blank m (numbers_in o)
     last_blank None x u le = refl
     last_blank (Some w) x u le = get_or_past w u 0 (let e = x.0 in omega arith)
 
@@ -106,7 +102,6 @@ make m n s f o r fi an = (plan, λ i. of m n (strikes i) (fit_is f fi i) (last_i
       units = m;
       bays = n;
       struck = rows_of m n s;
-      fit = flag_of f;
       fitted = table_of f;
       last = o;
       some_units = r.some_units;

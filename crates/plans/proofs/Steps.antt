@@ -10,17 +10,17 @@ use Rattle.tables.specs.Shape.{Inside, Blank}
 use Rattle.ledgers.specs.Calls.{Call, begin, Refusal, Answer, done, refused, buffer_of}
 use Rattle.ledgers.specs.Ledger.{Ledger, Fitting, begun, no_pairs, accepted, declined, verdict, made, by_verdict}
 use Rattle.ledgers.specs.Answered.{Answered, Judged}
-use Rattle.plans.specs.Step.{fitting, shortened, view, Same, Step, Fresh, turn, idle}
+use Rattle.plans.specs.Step.{fitting, shortened, view, Same, Started, Step, Fresh, turn, idle}
 use Rattle.plans.specs.declared.plan.Plan.{Plan}
 
 pub same_self : (p : Plan) → Same p p
-same_self p = record { units = refl; bays = refl; struck = refl; fit = refl; fitted = refl; last = refl }
+same_self p = record { units = refl; bays = refl; struck = refl; fitted = refl; last = refl }
 
 abbrev pub of : ℕ → ℕ → Pairs → Fitting → Option (List ℕ) → Ledger
 of u b s f o = record { units = u; bays = b; struck = s; fitted = f; last = o }
 
 pub same_view : (p q : Plan) → Same q p → view q ≡ view p
-same_view p q s = λ i. of (s.units i) (s.bays i) (pairs (s.struck i)) (fitting (s.fit i) (s.fitted i)) (shortened (s.units i) (s.last i))
+same_view p q s = λ i. of (s.units i) (s.bays i) (pairs (s.struck i)) (fitting (s.fitted i)) (shortened (s.units i) (s.last i))
 
 -- a call that declines
 pub declined_step :
@@ -63,16 +63,14 @@ blank_inside n u = let z = zeros 24 u in let p = pow_pos n in omega (arith, z, p
 pub blank_blank : (m : ℕ) → Blank m blank_rows
 blank_blank m u le = zeros 24 u
 
-pub view_begun : (q : Plan) (m n : ℕ) → q.units ≡ m → q.bays ≡ n → q.struck ≡ blank_rows → q.fit ≡ false → q.last ≡ None → view q ≡ begun m n no_pairs
-view_begun q m n eu eb es ef el =
-    λ i. of (eu i) (eb i) ((ap pairs es ∙ fun_ext (λ u. fun_ext (λ b. blank_pairs u b))) i) (fitting (ef i) q.fitted) (shortened (eu i) (el i))
+view_begun : (q : Plan) (m n : ℕ) → Started m n blank_rows q → view q ≡ begun m n no_pairs
+view_begun q m n s =
+    λ i. of (s.units i) (s.bays i) ((ap pairs s.struck ∙ fun_ext (λ u. fun_ext (λ b. blank_pairs u b))) i) (fitting (s.fitted i)) (shortened (s.units i) (s.last i))
 
-pub begin_step :
-    (p q : Plan) (m n : ℕ) → 1 ≤ m → m ≤ 24 → 1 ≤ n → n ≤ 64
-    → q.units ≡ m → q.bays ≡ n → q.struck ≡ blank_rows → q.fit ≡ false → q.last ≡ None → Step p (turn (begin m n) done []) q
-begin_step p q m n m1 m2 n1 n2 eu eb es ef el =
+pub begin_step : (p q : Plan) (m n : ℕ) → 1 ≤ m → m ≤ 24 → 1 ≤ n → n ≤ 64 → Started m n blank_rows q → Step p (turn (begin m n) done []) q
+begin_step p q m n m1 m2 n1 n2 s =
     done_step p q (begin m n) (cond-false _ _ _ (or_from _ _ (le-ltb m 1 m1) (or_from _ _ (le-ltb 24 m m2) (or_from _ _ (le-ltb n 1 n1) (le-ltb 64 n n2)))))
-    (view_begun q m n eu eb es ef el) (refl, refl)
+    (view_begun q m n s) (refl, refl)
 
-pub new_fresh : (q : Plan) → q.units ≡ 1 → q.bays ≡ 1 → q.struck ≡ blank_rows → q.fit ≡ false → q.last ≡ None → Fresh q
-new_fresh q eu eb es ef el = record { holds = view_begun q 1 1 eu eb es ef el }
+pub new_fresh : (q : Plan) → Started 1 1 blank_rows q → Fresh q
+new_fresh q s = record { holds = view_begun q 1 1 s }

@@ -7,15 +7,14 @@ use lib.Count.{ones, ones-le, ones_step}
 use Rattle.std.proofs.lemmas.List.Sums.{sum_by-cons}
 use Rattle.std.proofs.lemmas.List.{get_or-set_same, get_or-set_other}
 use Rattle.std.proofs.lemmas.Nat.{one_shl}
-use Rattle.std.proofs.lemmas.Bool.{cases_eq, cond-false, eq-eqb, ne_eqb, not_from_true, cases_Bool, eqb-true, eqb-false}
+use Rattle.std.proofs.lemmas.Bool.{cases_eq, eq-eqb, ne_eqb, cases_Bool, eqb-true, eqb-false}
 use Rattle.graphs.specs.Rows.{bit, pairs}
 use Rattle.graphs.proofs.Bits.{bit_of_or, bit_one, bit_none, bit_suc, bit_zero}
 use Rattle.graphs.proofs.PairSets.{bit_without}
 use Rattle.tables.specs.Shape.{Inside, Blank}
 use Rattle.ledgers.specs.Calls.{strike, free, tally, done, number}
-use Rattle.ledgers.specs.Ledger.{one_pair}
+use Rattle.ledgers.specs.Ledger.{one_pair, accepted, verdict}
 use Rattle.ledgers.specs.Answered.{count, how_many}
-use Rattle.ledgers.proofs.Verdicts.{inside_is}
 use Rattle.ledgers.proofs.Balance.{none_many, many_rest}
 use Rattle.plans.specs.Step.{fitting, shortened, view, Step, turn}
 use Rattle.plans.specs.declared.plan.Plan.{Plan}
@@ -52,33 +51,27 @@ abbrev one_bay : ℕ → ℕ
 one_bay b = (1 * 2 ^ b) % 18446744073709551616
 
 pub strike_step :
-    (p q : Plan) (u b : ℕ) → u < p.units → b < p.bays → u < length p.struck → bit (get_or p.struck u 0) b ≡ false
-    → q.units ≡ p.units → q.bays ≡ p.bays → q.struck ≡ set p.struck u (bit_or (get_or p.struck u 0) (one_bay b))
-    → q.fit ≡ p.fit → q.fitted ≡ p.fitted → q.last ≡ p.last → Step p (turn (strike u b) done []) q
-strike_step p q u b hu hb lt out eu eb es ef er el =
+    (p q : Plan) (u b row : ℕ) → verdict (view p) (strike u b) ≡ accepted → b < p.bays → u < length p.struck → row ≡ get_or p.struck u 0
+    → q.units ≡ p.units → q.bays ≡ p.bays → q.struck ≡ set p.struck u (bit_or row (one_bay b)) → q.fitted ≡ p.fitted → q.last ≡ p.last → Step p (turn (strike u b) done []) q
+strike_step p q u b row is hb lt at eu eb es ef el =
     let l64 : b < 64 = (let f = p.few_bays in omega arith) in
-    let row = get_or p.struck u 0 in
     let now : pairs q.struck ≡ (λ v c. pairs p.struck v c || one_pair u b v c) =
     ap pairs es ∙ changed p.struck u b (bit_or row (one_bay b)) (λ s t. s || t) lt or-false
-    (λ c. bit_of_or row (one_bay b) c ∙ ap (λ y. bit row c || y) (ap (λ x. bit x c) (one_shl b 64 l64) ∙ bit_one b c)) in
-    done_step p q (strike u b)
-    (cond-false _ _ _ (inside_is (view p) u b hu hb) ∙ cond-false _ _ _ out)
-    (λ i. of (eu i) (eb i) (now i) (fitting (ef i) (er i)) (shortened (eu i) (el i)))
+    (λ c. bit_of_or row (one_bay b) c ∙ ap₂ (λ x y. bit x c || y) at (ap (λ x. bit x c) (one_shl b 64 l64) ∙ bit_one b c)) in
+    done_step p q (strike u b) is
+    (λ i. of (eu i) (eb i) (now i) (fitting (ef i)) (shortened (eu i) (el i)))
     (refl, refl)
 
 pub free_step :
-    (p q : Plan) (u b : ℕ) → u < p.units → b < p.bays → u < length p.struck → get_or p.struck u 0 < 2 ^ 64 → bit (get_or p.struck u 0) b ≡ true
-    → q.units ≡ p.units → q.bays ≡ p.bays → q.struck ≡ set p.struck u (bit_and (get_or p.struck u 0) (18446744073709551615 - one_bay b))
-    → q.fit ≡ p.fit → q.fitted ≡ p.fitted → q.last ≡ p.last → Step p (turn (free u b) done []) q
-free_step p q u b hu hb lt low held eu eb es ef er el =
+    (p q : Plan) (u b row : ℕ) → verdict (view p) (free u b) ≡ accepted → b < p.bays → u < length p.struck → row < 2 ^ 64 → row ≡ get_or p.struck u 0
+    → q.units ≡ p.units → q.bays ≡ p.bays → q.struck ≡ set p.struck u (bit_and row (18446744073709551615 - one_bay b)) → q.fitted ≡ p.fitted → q.last ≡ p.last → Step p (turn (free u b) done []) q
+free_step p q u b row is hb lt low at eu eb es ef el =
     let l64 : b < 64 = (let f = p.few_bays in omega arith) in
-    let row = get_or p.struck u 0 in
     let now : pairs q.struck ≡ (λ v c. pairs p.struck v c && not (one_pair u b v c)) =
     ap pairs es ∙ changed p.struck u b (bit_and row (18446744073709551615 - one_bay b)) (λ s t. s && not t) lt and-true
-    (λ c. bit_without row (one_bay b) c low (omega arith) ∙ ap (λ y. bit row c && not y) (ap (λ x. bit x c) (one_shl b 64 l64) ∙ bit_one b c)) in
-    done_step p q (free u b)
-    (cond-false _ _ _ (inside_is (view p) u b hu hb) ∙ cond-false _ _ _ (not_from_true _ held))
-    (λ i. of (eu i) (eb i) (now i) (fitting (ef i) (er i)) (shortened (eu i) (el i)))
+    (λ c. bit_without row (one_bay b) c low (omega arith) ∙ ap₂ (λ x y. bit x c && not y) at (ap (λ x. bit x c) (one_shl b 64 l64) ∙ bit_one b c)) in
+    done_step p q (free u b) is
+    (λ i. of (eu i) (eb i) (now i) (fitting (ef i)) (shortened (eu i) (el i)))
     (refl, refl)
 
 -- ---- how many pairs a table has

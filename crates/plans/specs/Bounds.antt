@@ -1,10 +1,10 @@
--- What holds of the last answer in every plan. Assumes nothing.
+-- What holds of the fit and of the last answer in every plan. Assumes nothing.
 use Rattle.std.specs.Prelude.{ℕ, ◌<◌, List, [], Some, None, Option, slice_index}
 
--- the bays of the last answer; none are the empty list
-abbrev pub bays_in : Option (List ℕ) → List ℕ
-bays_in None = []
-bays_in (Some w) = w
+-- the fitted rows, and the bays of the last answer; none are the empty list
+abbrev pub numbers_in : Option (List ℕ) → List ℕ
+numbers_in None = []
+numbers_in (Some w) = w
 
 -- every number is below the number of bays
 abbrev pub Low : ℕ → List ℕ → Type 0

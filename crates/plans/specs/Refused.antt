@@ -1,8 +1,10 @@
 -- What the answers of a plan's calls say. Assumes nothing.
-use Rattle.std.specs.Prelude.{ℕ, Ok, Err, Result}
+use Rattle.std.specs.Prelude.{◌≡◌, ℕ, Bool, not, ◌||◌, ◌==◌, Ok, Err, Result}
 use Rattle.refusals.specs.declared.Reason.{Reason}
 use Rattle.refusals.specs.declared.Reason.TheVariants as R
+use Rattle.graphs.specs.Graph.{Graph}
 use Rattle.ledgers.specs.Calls.{Answer, done, number, found, yes, none, refused, rule, ill}
+use Rattle.ledgers.specs.Ledger.{Verdict, declined}
 use Rattle.saved.specs.declared.fault.PlanFault.{PlanFault}
 use Rattle.saved.specs.Told.{plan_told}
 use Rattle.plans.specs.declared.refusal.Refusal.{Refusal}
@@ -53,3 +55,12 @@ saving (Err e) = declining e
 abbrev pub opening : Result (Unit {0}) PlanFault → Answer
 opening (Ok x) = done
 opening (Err e) = refused (ill (plan_told e))
+
+-- The tests t that a call begins with: passed, they leave the verdict to the tests after them; failed, they decline with e.
+abbrev pub Tests : {X : Type 0} → (Verdict → Verdict) → Result X Refusal → Type 0
+Tests t (Ok x) = (v : Verdict) → t v ≡ v
+Tests t (Err e) = ((v : Verdict) → t v ≡ declined (rule (reason_of e))) × (declining e ≡ refused (rule (reason_of e)))
+
+-- an arrangement of other than m units, or a room of other than n bays
+abbrev pub counts_other : Graph → Graph → ℕ → ℕ → Bool
+counts_other a r m n = not (a.count == m) || not (r.count == n)

@@ -7,10 +7,10 @@ use Rattle.ledgers.specs.Ledger.{Ledger, Fitting, unfitted, fits, begun, no_pair
 use Rattle.ledgers.specs.Answered.{Right}
 use Rattle.plans.specs.declared.plan.Plan.{Plan}
 
--- the fitted rows where the flag says that there is a fit
-abbrev pub fitting : Bool → List ℕ → Fitting
-fitting true rows = fits (pairs rows)
-fitting false rows = unfitted
+-- the pairs of the fitted rows, where there is a fit
+abbrev pub fitting : Option (List ℕ) → Fitting
+fitting None = unfitted
+fitting (Some rows) = fits (pairs rows)
 
 -- the last answer has a bay for each unit, and zeros behind
 abbrev pub shortened : ℕ → Option (List ℕ) → Option (List ℕ)
@@ -19,14 +19,13 @@ shortened m (Some w) = Some (take m w)
 
 -- what a plan's record holds
 abbrev pub view : Plan → Ledger
-view p = record { units = p.units; bays = p.bays; struck = pairs p.struck; fitted = fitting p.fit p.fitted; last = shortened p.units p.last }
+view p = record { units = p.units; bays = p.bays; struck = pairs p.struck; fitted = fitting p.fitted; last = shortened p.units p.last }
 
 -- the one record has every field as the other
 pub record Same (p q : Plan) : Type 0 where
   pub units : p.units ≡ q.units
   pub bays : p.bays ≡ q.bays
   pub struck : p.struck ≡ q.struck
-  pub fit : p.fit ≡ q.fit
   pub fitted : p.fitted ≡ q.fitted
   pub last : p.last ≡ q.last
 
@@ -35,7 +34,7 @@ pub record Started (m n : ℕ) (rows : List ℕ) (q : Plan) : Type 0 where
   pub units : q.units ≡ m
   pub bays : q.bays ≡ n
   pub struck : q.struck ≡ rows
-  pub fit : q.fit ≡ false
+  pub fitted : q.fitted ≡ None
   pub last : q.last ≡ None
 
 -- a call, what it answered, and the buffer at its return

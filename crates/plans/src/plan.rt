@@ -1,20 +1,19 @@
 // The record of a plan.
 ghost use Rattle.std.specs.Prelude.{◌≤◌};
 ghost use Rattle.tables.specs.Shape.{Inside, Blank};
-ghost use Rattle.plans.specs.Bounds.{Low, bays_in};
+ghost use Rattle.plans.specs.Bounds.{Low, numbers_in};
 
 pub mod calls;
 pub mod searches;
 
-// Its sizes, the struck pairs, the fitted pairs where there is a fit, and the last answer; rows past the units and bits past the
-// bays are zero.
+// Its sizes, the struck pairs, the fitted pairs where there is a fit, and the last answer where there is one; rows past the units
+// and bits past the bays are zero.
 #[derive(Drop)]
 pub struct Plan {
     units: usize,
     bays: usize,
     struck: [u64; 24],
-    fit: bool,
-    fitted: [u64; 24],
+    fitted: Option<[u64; 24]>,
     last: Option<[u8; 24]>,
     ghost some_units: { 1 ≤ units },
     ghost few_units: { units ≤ 24 },
@@ -22,8 +21,8 @@ pub struct Plan {
     ghost few_bays: { bays ≤ 64 },
     ghost inside: { Inside bays struck },
     ghost blank: { Blank units struck },
-    ghost fitted_inside: { Inside bays fitted },
-    ghost fitted_blank: { Blank units fitted },
-    ghost last_low: { Low bays (bays_in last) },
-    ghost last_blank: { Blank units (bays_in last) },
+    ghost fitted_inside: { Inside bays (numbers_in fitted) },
+    ghost fitted_blank: { Blank units (numbers_in fitted) },
+    ghost last_low: { Low bays (numbers_in last) },
+    ghost last_blank: { Blank units (numbers_in last) },
 }

@@ -28,11 +28,11 @@ pub enum Refusal {
     NoRoom,
 }
 
-impl Refusal {
-    pub fn reason(self) -> Reason
-        ensures { result ≡ reason_of self }
-    {
-        match self {
+impl From<Refusal> for Reason {
+    ghost from_gives = { λ e r. r ≡ reason_of e };
+
+    fn from(refusal: Refusal) -> Reason {
+        match refusal {
             Refusal::Sizes => Reason::Sizes,
             Refusal::OutOfRange => Reason::OutOfRange,
             Refusal::Standing => Reason::Standing,

@@ -1,10 +1,13 @@
 // The calls that need no search.
-ghost use Rattle.std.specs.Prelude.{◌≡◌, ℕ, ◌≤◌, [], if◌then◌else◌, nat_lt, slice_index};
+ghost use Rattle.std.specs.Prelude.{◌≡◌, ℕ, ◌<◌, ◌≤◌, [], not, if◌then◌else◌, length, slice_index, IfOk, OnOk};
+ghost use Rattle.refusals.specs.declared.Reason.TheVariants.{OutOfRange, Standing, CardCount};
+ghost use Rattle.graphs.specs.Rows.{pairs};
 ghost use Rattle.books.specs.Fit.{handed};
 ghost use Rattle.tables.specs.Shape.{Inside, Blank};
 ghost use Rattle.ledgers.specs.Calls.{begin, «open», strike, free, fit, fit_further, tally, save, number};
-ghost use Rattle.plans.specs.Refused.{doing, saving, opening};
-ghost use Rattle.plans.specs.Step.{Started, Step, Shows, Fresh, turn};
+ghost use Rattle.ledgers.specs.Ledger.{unless, outside, other_cards};
+ghost use Rattle.plans.specs.Refused.{doing, saving, opening, Tests};
+ghost use Rattle.plans.specs.Step.{Started, Step, Shows, Fresh, turn, view};
 ghost use Rattle.plans.specs.Runs.{Law};
 
 use crate::plan::Plan;
@@ -15,16 +18,13 @@ use graphs::pairs::{common, total};
 use saved::{PlanFault, read_plan, save_plan};
 use tables::Table;
 
-// The first 24 rows, with zeros behind them.
+// The rows, with zeros behind them.
 fn front_rows(rows: &[u64]) -> [u64; 24]
-    ensures { (u : ℕ) → slice_index result u ≡ (if nat_lt u 24 then slice_index rows.now u else 0) }
+    requires { length rows.now ≤ 24 }
+    ensures { (u : ℕ) → slice_index result u ≡ slice_index rows.now u }
 {
     let mut front = [0; 24];
-    for i in 0..24 {
-        if i < rows.len() {
-            front[i] = rows[i];
-        }
-    }
+    front[..rows.len()].copy_from_slice(rows);
     front
 }
 
@@ -43,10 +43,51 @@ impl Plan {
             units,
             bays,
             struck,
-            fit: false,
-            fitted: [0; 24],
+            fitted: None,
             last: None,
         }
+    }
+
+    // Declines a pair that the plan does not have.
+    pub(super) fn in_range(&self, unit: usize, bay: usize) -> Result<(), Refusal>
+        ensures tests { Tests (unless OutOfRange (outside (view self.now) unit bay)) result }
+        ensures inside { OnOk result ((unit < self.now.units) × (bay < self.now.bays)) }
+    {
+        if unit >= self.units || bay >= self.bays {
+            return Err(Refusal::OutOfRange);
+        }
+        Ok(())
+    }
+
+    // The struck bays of the unit, where the bay is one of them just if `struck` says so.
+    fn standing(&self, unit: usize, bay: usize, struck: bool) -> Result<u64, Refusal>
+        ensures tests { Tests (λ v. unless OutOfRange (outside (view self.now) unit bay) (unless Standing (if struck then not (pairs self.now.struck unit bay) else pairs self.now.struck unit bay) v)) result }
+        ensures inside { OnOk result ((unit < self.now.units) × (bay < self.now.bays)) }
+        ensures row { IfOk result (λ row. row ≡ slice_index self.now.struck unit) }
+    {
+        self.in_range(unit, bay)?;
+        let row = self.struck[unit];
+        if holds(row, bay) != struck {
+            return Err(Refusal::Standing);
+        }
+        Ok(row)
+    }
+
+    // The pairs whose cards suit by the book, where there is one card a unit and one a bay.
+    fn suited<B: Book>(
+        &self,
+        book: &B,
+        units: &[B::UnitCard],
+        bays: &[B::BayCard],
+    ) -> Result<[u64; 24], Refusal>
+        ensures tests { Tests (unless CardCount (other_cards (view self.now) (handed (B.Book.suiting book.now) units.now bays.now))) result }
+        ensures counts { OnOk result ((length units.now ≡ self.now.units) × (length bays.now ≡ self.now.bays)) }
+        ensures rows { IfOk result (λ rows. (u b : ℕ) → pairs rows u b ≡ (handed (B.Book.suiting book.now) units.now bays.now).suits u b) }
+    {
+        if units.len() != self.units || bays.len() != self.bays {
+            return Err(Refusal::CardCount);
+        }
+        Ok(suited_rows(book, units, bays))
     }
 
     // A plan of one unit and one bay.
@@ -85,25 +126,15 @@ impl Plan {
     pub fn save(&self, out: &mut [u8]) -> Result<usize, Refusal>
         ensures { Step self.now (turn (save out.old) (saving result) out.new) self.now }
     {
-        let units = self.units;
-        let table = Table::from_rows(self.bays, &self.struck[0..units]);
-        match save_plan(&table, out) {
-            Ok(len) => Ok(len),
-            Err(_) => Err(Refusal::NoRoom),
-        }
+        let table = Table::from_rows(self.bays, &self.struck[..self.units]);
+        save_plan(&table, out).map_err(|_| Refusal::NoRoom)
     }
 
     // Strikes a pair.
     pub fn strike(&mut self, unit: usize, bay: usize) -> Result<(), Refusal>
         ensures { Step self.old (turn (strike unit bay) (doing result) []) self.new }
     {
-        if unit >= self.units || bay >= self.bays {
-            return Err(Refusal::OutOfRange);
-        }
-        let row = self.struck[unit];
-        if holds(row, bay) {
-            return Err(Refusal::Standing);
-        }
+        let row = self.standing(unit, bay, false)?;
         self.struck[unit] = row | (1 << bay);
         Ok(())
     }
@@ -112,13 +143,7 @@ impl Plan {
     pub fn free(&mut self, unit: usize, bay: usize) -> Result<(), Refusal>
         ensures { Step self.old (turn (free unit bay) (doing result) []) self.new }
     {
-        if unit >= self.units || bay >= self.bays {
-            return Err(Refusal::OutOfRange);
-        }
-        let row = self.struck[unit];
-        if !holds(row, bay) {
-            return Err(Refusal::Standing);
-        }
+        let row = self.standing(unit, bay, true)?;
         self.struck[unit] = row & !(1 << bay);
         Ok(())
     }
@@ -132,11 +157,8 @@ impl Plan {
     ) -> Result<(), Refusal>
         ensures { Step self.old (turn (fit (handed (B.Book.suiting book.now) units.now bays.now)) (doing result) []) self.new }
     {
-        if units.len() != self.units || bays.len() != self.bays {
-            return Err(Refusal::CardCount);
-        }
-        self.fitted = suited_rows(book, units, bays);
-        self.fit = true;
+        let suited = self.suited(book, units, bays)?;
+        self.fitted = Some(suited);
         Ok(())
     }
 
@@ -149,15 +171,11 @@ impl Plan {
     ) -> Result<(), Refusal>
         ensures { Step self.old (turn (fit_further (handed (B.Book.suiting book.now) units.now bays.now)) (doing result) []) self.new }
     {
-        if units.len() != self.units || bays.len() != self.bays {
-            return Err(Refusal::CardCount);
-        }
-        if !self.fit {
+        let suited = self.suited(book, units, bays)?;
+        let Some(fitted) = &mut self.fitted else {
             return Err(Refusal::NoFit);
-        }
-        let suited = suited_rows(book, units, bays);
-        let kept = common(&self.fitted, &suited);
-        self.fitted = kept;
+        };
+        *fitted = common(fitted, &suited);
         Ok(())
     }
 

@@ -1,11 +1,12 @@
 // The calls that search.
-ghost use Rattle.std.specs.Prelude.{◌≡◌, ◌≤◌, ◌&&◌, [], ◌++◌, length, take, drop, Some, nat_le};
-ghost use Rattle.filters.specs.Filter.{shaped};
-ghost use Rattle.search.specs.Walk.{setting, walk};
-ghost use Rattle.search.specs.Found.{answer_of, FindsNext};
+ghost use Rattle.std.specs.Prelude.{◌≡◌, ℕ, [], Err, MatchResult, IfOk};
+ghost use Rattle.refusals.specs.declared.Reason.TheVariants.{NoFit, OtherCount};
+ghost use Rattle.graphs.specs.Rows.{pairs};
+ghost use Rattle.search.specs.Walk.{setting};
 ghost use Rattle.ledgers.specs.Calls.{seek, further, what_if};
-ghost use Rattle.plans.specs.Refused.{finding, asking};
-ghost use Rattle.plans.specs.Step.{Step, Shows, turn};
+ghost use Rattle.ledgers.specs.Ledger.{unless, no_fit, open_pairs};
+ghost use Rattle.plans.specs.Refused.{finding, asking, Tests, counts_other};
+ghost use Rattle.plans.specs.Step.{Step, Shows, turn, view};
 
 use crate::guard::Narrowed;
 use crate::plan::Plan;
@@ -15,32 +16,50 @@ use graphs::Source;
 use graphs::pairs::without;
 use search::{Find, SearchError, first, next_after};
 
-// Writes the first bytes of one over those of the other.
-fn copy(from: &[u8; 24], units: usize, out: &mut [u8])
-    requires { (units ≤ 24) × (units ≤ length out.old) }
-    ensures { out.new ≡ take units from.now ++ drop units out.old }
+// Declines sources of other counts.
+fn same_counts<A: Source, R: Source>(
+    arrangement: &A,
+    room: &R,
+    units: usize,
+    bays: usize,
+) -> Result<(), Refusal>
+    ensures { Tests (unless OtherCount (counts_other (A.Source.graph arrangement.now) (R.Source.graph room.now) units bays)) result }
 {
-    for i in 0..units {
-        out[i] = from[i];
+    if arrangement.count() != units || room.count() != bays {
+        return Err(Refusal::OtherCount);
+    }
+    Ok(())
+}
+
+// What a search of well shaped rows came to, as the plan answers it.
+fn outcome(answer: Result<Find, SearchError>) -> Result<Find, Refusal>
+    requires { ¬ (answer ≡ Err SearchError.IllShaped) }
+    ensures { MatchResult result (λ find. answer ≡ Ok find) (λ e. (t : ℕ) × (e ≡ Refusal.NoPlacement t) × (answer ≡ Err (SearchError.NoPlacement t))) }
+{
+    match answer {
+        Ok(find) => Ok(find),
+        Err(SearchError::NoPlacement { tries }) => Err(Refusal::NoPlacement(tries)),
+        Err(SearchError::IllShaped) => unreachable(),
     }
 }
 
-// The first placement within the rows after the last answer, which is lent whole.
-fn next_in<A: Source, R: Source, F: Filter>(
-    arrangement: &A,
-    room: &R,
-    strict: bool,
-    filter: &F,
-    rows: &[u64],
-    last: &[u8; 24],
-) -> Result<Find, SearchError>
-    ensures answer { result ≡ answer_of (shaped (A.Source.graph arrangement.now) (R.Source.graph room.now) rows.now && nat_le (length rows.now) 24) (walk (setting (A.Source.graph arrangement.now) (R.Source.graph room.now) strict (F.Filter.left filter.now)) (Some (take (length rows.now) last.now)) rows.now) }
-    ensures theorem { FindsNext }
-{
-    next_after(arrangement, room, strict, filter, rows, last)
-}
-
 impl Plan {
+    // The open rows, where there is a fit and the sources have the plan's counts.
+    fn open_rows<A: Source, R: Source>(
+        &self,
+        arrangement: &A,
+        room: &R,
+    ) -> Result<[u64; 24], Refusal>
+        ensures tests { Tests (λ v. unless NoFit (no_fit (view self.now).fitted) (unless OtherCount (counts_other (A.Source.graph arrangement.now) (R.Source.graph room.now) self.now.units self.now.bays) v)) result }
+        ensures rows { IfOk result (λ rows. (u b : ℕ) → pairs rows u b ≡ open_pairs (view self.now) u b) }
+    {
+        let Some(fitted) = &self.fitted else {
+            return Err(Refusal::NoFit);
+        };
+        same_counts(arrangement, room, self.units, self.bays)?;
+        Ok(without(fitted, &self.struck))
+    }
+
     // The first placement within the open pairs, into the buffer, with the tries.
     pub fn seek<A: Source, R: Source, F: Filter>(
         &mut self,
@@ -53,29 +72,15 @@ impl Plan {
         ensures step { Step self.old (turn (seek (setting (A.Source.graph arrangement.now) (R.Source.graph room.now) strict (F.Filter.left filter.now)) out.old) (finding result) out.new) self.new }
         ensures shows { Shows (seek (setting (A.Source.graph arrangement.now) (R.Source.graph room.now) strict (F.Filter.left filter.now)) out.old) }
     {
-        if !self.fit {
-            return Err(Refusal::NoFit);
-        }
-        if arrangement.count() != self.units || room.count() != self.bays {
-            return Err(Refusal::OtherCount);
-        }
-        if out.len() < self.units {
+        let units = self.units;
+        let rows = self.open_rows(arrangement, room)?;
+        if out.len() < units {
             return Err(Refusal::ShortBuffer);
         }
-        let units = self.units;
-        let rows = without(&self.fitted, &self.struck);
-        match first(arrangement, room, strict, filter, &rows[0..units]) {
-            Ok(find) => {
-                copy(&find.bays, units, out);
-                let last = Some(find.bays);
-                self.last = last;
-                Ok(find.tries)
-            }
-            Err(error) => match error {
-                SearchError::NoPlacement { tries } => Err(Refusal::NoPlacement(tries)),
-                SearchError::IllShaped => unreachable(),
-            },
-        }
+        let find = outcome(first(arrangement, room, strict, filter, &rows[..units]))?;
+        out[..units].copy_from_slice(&find.bays[..units]);
+        self.last = Some(find.bays);
+        Ok(find.tries)
     }
 
     // The first placement after the last answer, into the buffer, with the tries.
@@ -90,32 +95,16 @@ impl Plan {
         ensures step { Step self.old (turn (further (setting (A.Source.graph arrangement.now) (R.Source.graph room.now) strict (F.Filter.left filter.now)) out.old) (finding result) out.new) self.new }
         ensures shows { Shows (further (setting (A.Source.graph arrangement.now) (R.Source.graph room.now) strict (F.Filter.left filter.now)) out.old) }
     {
-        if !self.fit {
-            return Err(Refusal::NoFit);
-        }
-        if arrangement.count() != self.units || room.count() != self.bays {
-            return Err(Refusal::OtherCount);
-        }
-        let Some(last) = self.last else {
-            return Err(Refusal::NoLastAnswer);
-        };
-        if out.len() < self.units {
+        let units = self.units;
+        let rows = self.open_rows(arrangement, room)?;
+        let last = self.last.ok_or(Refusal::NoLastAnswer)?;
+        if out.len() < units {
             return Err(Refusal::ShortBuffer);
         }
-        let units = self.units;
-        let rows = without(&self.fitted, &self.struck);
-        match next_in(arrangement, room, strict, filter, &rows[0..units], &last) {
-            Ok(find) => {
-                copy(&find.bays, units, out);
-                let newest = Some(find.bays);
-                self.last = newest;
-                Ok(find.tries)
-            }
-            Err(error) => match error {
-                SearchError::NoPlacement { tries } => Err(Refusal::NoPlacement(tries)),
-                SearchError::IllShaped => unreachable(),
-            },
-        }
+        let next = outcome(next_after(arrangement, room, strict, filter, &rows[..units], &last))?;
+        out[..units].copy_from_slice(&next.bays[..units]);
+        self.last = Some(next.bays);
+        Ok(next.tries)
     }
 
     // Whether some placement within the open pairs has the unit on the bay, with the tries; the guard puts the row back.
@@ -131,31 +120,22 @@ impl Plan {
         ensures step { Step self.old (turn (what_if unit bay (setting (A.Source.graph arrangement.now) (R.Source.graph room.now) strict (F.Filter.left filter.now))) (asking result) []) self.new }
         ensures shows { Shows (what_if unit bay (setting (A.Source.graph arrangement.now) (R.Source.graph room.now) strict (F.Filter.left filter.now))) }
     {
-        if unit >= self.units || bay >= self.bays {
-            return Err(Refusal::OutOfRange);
-        }
-        if !self.fit {
-            return Err(Refusal::NoFit);
-        }
-        if arrangement.count() != self.units || room.count() != self.bays {
-            return Err(Refusal::OtherCount);
-        }
+        self.in_range(unit, bay)?;
         let units = self.units;
         let struck = self.struck;
-        let saved = self.fitted[unit];
+        let Some(fitted) = &mut self.fitted else {
+            return Err(Refusal::NoFit);
+        };
+        same_counts(arrangement, room, units, self.bays)?;
+        let saved = fitted[unit];
         let guard = Narrowed {
-            rows: &mut self.fitted,
+            rows: fitted,
             unit,
             saved,
         };
         guard.rows[unit] = saved & (1 << bay);
         let rows = without(guard.rows, &struck);
-        match first(arrangement, room, strict, filter, &rows[0..units]) {
-            Ok(find) => Ok(find.tries),
-            Err(error) => match error {
-                SearchError::NoPlacement { tries } => Err(Refusal::NoPlacement(tries)),
-                SearchError::IllShaped => unreachable(),
-            },
-        }
+        let find = outcome(first(arrangement, room, strict, filter, &rows[..units]))?;
+        Ok(find.tries)
     }
 }

@@ -1,27 +1,20 @@
-use Rattle.std.proofs.Common.{◌&&◌, refl, ap, ◌∙◌, arith}
+use Rattle.std.proofs.Common.{◌&&◌, refl, ap, ◌∙◌}
 use Rattle.graphs.specs.Rows.{pairs}
-use Rattle.books.proofs.Fitting.{suited_all}
-use Rattle.plans.proofs.Fitting.{fit_further_step, both_inside, both_blank}
+use Rattle.plans.proofs.Fitting.{fitted_inside, fitted_blank, fit_further_step, both_inside, both_blank}
 use Rattle.plans.proofs.plan.Plan.fit_further.Goals as goal
 
-pub invariant_of-self-clause-fitted_inside : goal.invariant_of-self-clause-fitted_inside
-invariant_of-self-clause-fitted_inside g c =
+pub invariant_of-self-2-clause-fitted_inside : goal.invariant_of-self-2-clause-fitted_inside
+invariant_of-self-2-clause-fitted_inside g c =
     let p = c.args.self.now in
-    let r = pairs c.suited_rows-suited.result in
-    both_inside p.bays p.fitted _ r p.fitted_inside c.common-kept.ensures
+    both_inside p.bays c.in-Some.fitted _ (pairs c.in_ok-suited.suited) (fitted_inside p c.in-Some.fitted c.in-Some.is) c.common.ensures
 
-pub invariant_of-self-clause-fitted_blank : goal.invariant_of-self-clause-fitted_blank
-invariant_of-self-clause-fitted_blank g c =
+pub invariant_of-self-2-clause-fitted_blank : goal.invariant_of-self-2-clause-fitted_blank
+invariant_of-self-2-clause-fitted_blank g c =
     let p = c.args.self.now in
-    let r = pairs c.suited_rows-suited.result in
-    both_blank p.units p.fitted _ r p.fitted_blank c.common-kept.ensures
+    both_blank p.units c.in-Some.fitted _ (pairs c.in_ok-suited.suited) (fitted_blank p c.in-Some.fitted c.in-Some.is) c.common.ensures
 
 pub returns : goal.returns
 returns g c =
-    let p = c.args.self.now in
-    let f = g.B.Book.suiting c.args.book.now in
-    let us = c.args.units.now in
-    let bs = c.args.bays.now in
-    let is = suited_all f us bs c.suited_rows-suited.result c.suited_rows-suited.ensures (let e = c.if-units-self.false in let h = p.few_units in omega arith) (let e = c.if-bays-self.false in let h = p.few_bays in omega arith) in
-    fit_further_step f us bs p _ c.if-units-self.false c.if-bays-self.false c.if-not-self.false
-    (λ u b. c.common-kept.ensures u b ∙ ap (λ t. pairs p.fitted u b && t) (is u b)) refl refl refl refl refl
+    let e = c.in_ok-suited.ensures in
+    fit_further_step (g.B.Book.suiting c.args.book.now) c.args.units.now c.args.bays.now c.args.self.now _ _ _ e.tests c.in-Some.is
+    (λ u b. c.common.ensures u b ∙ ap (λ t. pairs c.in-Some.fitted u b && t) (e.rows u b)) refl refl refl refl refl
