@@ -13,7 +13,7 @@ ghost use Rattle.search.specs.Tries.{CountsTries};
 
 use filters::{Filter, well_shaped};
 use graphs::{Source, holds};
-use placements::agreeing;
+use placements::{Joined, Problem};
 
 // The placement found, the bay of each unit in order and zeros behind, and the tries that it took.
 #[derive(Clone, Copy, Debug)]
@@ -46,14 +46,38 @@ struct Settled {
 }
 
 impl Masks {
-    fn new<R: Source>(room: &R, strict: bool, b: usize) -> Masks
-        ensures { (out back : Bool) → picked result out back ≡ row_of (R.Source.graph room.now).count (λ c. agrees_if (R.Source.graph room.now) out back strict b c) }
+    fn new<A: Source, R: Source>(problem: &Problem<A, R>, b: usize) -> Masks
+        ensures { (out back : Bool) → picked result out back ≡ row_of (R.Source.graph problem.now.room.now).count (λ c. agrees_if (R.Source.graph problem.now.room.now) out back problem.now.strict b c) }
     {
         Masks {
-            both: agreeing(room, true, true, strict, b),
-            out: agreeing(room, false, true, strict, b),
-            back: agreeing(room, true, false, strict, b),
-            apart: agreeing(room, false, false, strict, b),
+            both: problem.agreeing(
+                Joined {
+                    out: true,
+                    back: true,
+                },
+                b,
+            ),
+            out: problem.agreeing(
+                Joined {
+                    out: false,
+                    back: true,
+                },
+                b,
+            ),
+            back: problem.agreeing(
+                Joined {
+                    out: true,
+                    back: false,
+                },
+                b,
+            ),
+            apart: problem.agreeing(
+                Joined {
+                    out: false,
+                    back: false,
+                },
+                b,
+            ),
         }
     }
 
@@ -80,9 +104,7 @@ fn mark(units: u64, v: usize, cut: bool) -> u64
 
 // Into `next` go the rows after unit `u` has taken the bay `b`; the answer is a set of units outside which no row has changed.
 fn narrow<A: Source, R: Source>(
-    arrangement: &A,
-    room: &R,
-    strict: bool,
+    problem: &Problem<A, R>,
     u: usize,
     b: usize,
     rows: &[u64],
@@ -92,12 +114,12 @@ fn narrow<A: Source, R: Source>(
     requires few { length rows.now ≤ 24 }
     requires unit { u < length rows.now }
     requires bay { b < 64 }
-    ensures next { next.new ≡ narrowed (A.Source.graph arrangement.now) (R.Source.graph room.now) strict u b rows.now }
+    ensures next { next.new ≡ narrowed (A.Source.graph problem.now.arrangement.now) (R.Source.graph problem.now.room.now) problem.now.strict u b rows.now }
     ensures changed { (v : ℕ) → bit result v ≡ false → slice_index next.new v ≡ slice_index rows.now v }
 {
-    let masks = Masks::new(room, strict, b);
-    let out = arrangement.row(u);
-    let back = arrangement.column(u);
+    let masks = Masks::new(problem, b);
+    let out = problem.arrangement.row(u);
+    let back = problem.arrangement.column(u);
     next.copy_from_slice(rows);
     next[u] = 1 << b;
     let mut changed: u64 = 1 << u;
@@ -139,9 +161,7 @@ fn lowest_bays(rows: &[u64]) -> [u8; 24]
 
 // One try: into `next` go the rows that it leaves, and the answer says whether one of them is empty.
 fn attempt<A: Source, R: Source, F: Filter>(
-    arrangement: &A,
-    room: &R,
-    strict: bool,
+    problem: &Problem<A, R>,
     filter: &F,
     u: usize,
     b: usize,
@@ -152,20 +172,18 @@ fn attempt<A: Source, R: Source, F: Filter>(
     requires few { length rows.now ≤ 24 }
     requires unit { u < length rows.now }
     requires held { bit (slice_index rows.now u) b ≡ true }
-    requires left { LeftBy (setting (A.Source.graph arrangement.now) (R.Source.graph room.now) strict (F.Filter.left filter.now)) rows.now }
-    ensures left { next.new ≡ after_try (setting (A.Source.graph arrangement.now) (R.Source.graph room.now) strict (F.Filter.left filter.now)) u b rows.now }
+    requires left { LeftBy (setting (A.Source.graph problem.now.arrangement.now) (R.Source.graph problem.now.room.now) problem.now.strict (F.Filter.left filter.now)) rows.now }
+    ensures left { next.new ≡ after_try (setting (A.Source.graph problem.now.arrangement.now) (R.Source.graph problem.now.room.now) problem.now.strict (F.Filter.left filter.now)) u b rows.now }
     ensures empty { result ≡ any_empty next.new }
 {
-    let changed = narrow(arrangement, room, strict, u, b, rows, next);
-    let counts = filter.resume(arrangement, room, strict, changed, next);
+    let changed = narrow(problem, u, b, rows, next);
+    let counts = filter.resume(problem, changed, next);
     counts.empty > 0
 }
 
 // Settles the units from `u` upward.
 fn settle_from<A: Source, R: Source, F: Filter>(
-    arrangement: &A,
-    room: &R,
-    strict: bool,
+    problem: &Problem<A, R>,
     filter: &F,
     last: &[u8],
     tied: bool,
@@ -175,9 +193,9 @@ fn settle_from<A: Source, R: Source, F: Filter>(
 ) -> Settled
     requires few { length rows.now ≤ 24 }
     requires lasting { length rows.now ≤ length last.now }
-    requires left { LeftBy (setting (A.Source.graph arrangement.now) (R.Source.graph room.now) strict (F.Filter.left filter.now)) rows.now }
-    ensures found { result.found ≡ padded_found (settle (setting (A.Source.graph arrangement.now) (R.Source.graph room.now) strict (F.Filter.left filter.now)) last.now (length rows.now - u) tied u rows.now).found }
-    ensures tries { result.tries ≡ min (tries + (settle (setting (A.Source.graph arrangement.now) (R.Source.graph room.now) strict (F.Filter.left filter.now)) last.now (length rows.now - u) tied u rows.now).tries) 4294967295 }
+    requires left { LeftBy (setting (A.Source.graph problem.now.arrangement.now) (R.Source.graph problem.now.room.now) problem.now.strict (F.Filter.left filter.now)) rows.now }
+    ensures found { result.found ≡ padded_found (settle (setting (A.Source.graph problem.now.arrangement.now) (R.Source.graph problem.now.room.now) problem.now.strict (F.Filter.left filter.now)) last.now (length rows.now - u) tied u rows.now).found }
+    ensures tries { result.tries ≡ min (tries + (settle (setting (A.Source.graph problem.now.arrangement.now) (R.Source.graph problem.now.room.now) problem.now.strict (F.Filter.left filter.now)) last.now (length rows.now - u) tied u rows.now).tries) 4294967295 }
 {
     if u >= rows.len() {
         return Settled {
@@ -194,19 +212,9 @@ fn settle_from<A: Source, R: Source, F: Filter>(
         rest &= rest - 1;
         so_far = so_far.saturating_add(1);
         let part = &mut next[0..rows.len()];
-        if !attempt(arrangement, room, strict, filter, u, b, rows, part) {
+        if !attempt(problem, filter, u, b, rows, part) {
             let same = tied & (b == bound);
-            let deeper = settle_from(
-                arrangement,
-                room,
-                strict,
-                filter,
-                last,
-                same,
-                u + 1,
-                part,
-                so_far,
-            );
+            let deeper = settle_from(problem, filter, last, same, u + 1, part, so_far);
             if deeper.found.is_some() {
                 return deeper;
             }
@@ -221,26 +229,24 @@ fn settle_from<A: Source, R: Source, F: Filter>(
 
 // The whole search within the rows, from the start or (tied) after the last answer.
 fn search_rows<A: Source, R: Source, F: Filter>(
-    arrangement: &A,
-    room: &R,
-    strict: bool,
+    problem: &Problem<A, R>,
     filter: &F,
     last: &[u8],
     tied: bool,
     rows: &[u64],
 ) -> Result<Find, SearchError>
-    requires shape { shaped (A.Source.graph arrangement.now) (R.Source.graph room.now) rows.now ≡ true }
+    requires shape { shaped (A.Source.graph problem.now.arrangement.now) (R.Source.graph problem.now.room.now) rows.now ≡ true }
     requires few { length rows.now ≤ 24 }
     requires lasting { length rows.now ≤ length last.now }
-    ensures { result ≡ answer_with (walk_from (setting (A.Source.graph arrangement.now) (R.Source.graph room.now) strict (F.Filter.left filter.now)) last.now tied rows.now).found (walk_from (setting (A.Source.graph arrangement.now) (R.Source.graph room.now) strict (F.Filter.left filter.now)) last.now tied rows.now).tries }
+    ensures { result ≡ answer_with (walk_from (setting (A.Source.graph problem.now.arrangement.now) (R.Source.graph problem.now.room.now) problem.now.strict (F.Filter.left filter.now)) last.now tied rows.now).found (walk_from (setting (A.Source.graph problem.now.arrangement.now) (R.Source.graph problem.now.room.now) problem.now.strict (F.Filter.left filter.now)) last.now tied rows.now).tries }
 {
     let mut start = [0u64; 24];
     let part = &mut start[0..rows.len()];
     part.copy_from_slice(rows);
-    if filter.apply(arrangement, room, strict, part).empty > 0 {
+    if filter.apply(problem, part).empty > 0 {
         return Err(SearchError::NoPlacement { tries: 0 });
     }
-    let settled = settle_from(arrangement, room, strict, filter, last, tied, 0, part, 0);
+    let settled = settle_from(problem, filter, last, tied, 0, part, 0);
     match settled.found {
         Some(bays) => Ok(Find {
             bays,
@@ -254,43 +260,39 @@ fn search_rows<A: Source, R: Source, F: Filter>(
 
 // The first placement within the rows in dictionary order.
 pub fn first<A: Source, R: Source, F: Filter>(
-    arrangement: &A,
-    room: &R,
-    strict: bool,
+    problem: &Problem<A, R>,
     filter: &F,
     rows: &[u64],
 ) -> Result<Find, SearchError>
-    ensures answer { result ≡ answer_of (shaped (A.Source.graph arrangement.now) (R.Source.graph room.now) rows.now) (walk (setting (A.Source.graph arrangement.now) (R.Source.graph room.now) strict (F.Filter.left filter.now)) None rows.now) }
-    ensures first { shaped (A.Source.graph arrangement.now) (R.Source.graph room.now) rows.now ≡ true → Searched (Sought (A.Source.graph arrangement.now) (R.Source.graph room.now) strict rows.now) (length rows.now) (walk (setting (A.Source.graph arrangement.now) (R.Source.graph room.now) strict (F.Filter.left filter.now)) None rows.now).tries result }
+    ensures answer { result ≡ answer_of (shaped (A.Source.graph problem.now.arrangement.now) (R.Source.graph problem.now.room.now) rows.now) (walk (setting (A.Source.graph problem.now.arrangement.now) (R.Source.graph problem.now.room.now) problem.now.strict (F.Filter.left filter.now)) None rows.now) }
+    ensures first { shaped (A.Source.graph problem.now.arrangement.now) (R.Source.graph problem.now.room.now) rows.now ≡ true → Searched (Sought (A.Source.graph problem.now.arrangement.now) (R.Source.graph problem.now.room.now) problem.now.strict rows.now) (length rows.now) (walk (setting (A.Source.graph problem.now.arrangement.now) (R.Source.graph problem.now.room.now) problem.now.strict (F.Filter.left filter.now)) None rows.now).tries result }
     ensures theorem { FindsFirst }
     ensures counted { CountsTries }
     ensures alike { FiltersAlike }
     ensures monomorphisms { OpenIsMono }
     ensures induced { StrictIsInduced }
 {
-    if !well_shaped(arrangement, room, rows) {
+    if !well_shaped(problem, rows) {
         return Err(SearchError::IllShaped);
     }
-    search_rows(arrangement, room, strict, filter, &[0u8; 24], false, rows)
+    search_rows(problem, filter, &[0u8; 24], false, rows)
 }
 
 // The first placement within the rows that comes after the last answer in dictionary order.
 pub fn next_after<A: Source, R: Source, F: Filter>(
-    arrangement: &A,
-    room: &R,
-    strict: bool,
+    problem: &Problem<A, R>,
     filter: &F,
     rows: &[u64],
     last: &[u8],
 ) -> Result<Find, SearchError>
-    ensures answer { result ≡ answer_of (shaped (A.Source.graph arrangement.now) (R.Source.graph room.now) rows.now && nat_le (length rows.now) (length last.now)) (walk (setting (A.Source.graph arrangement.now) (R.Source.graph room.now) strict (F.Filter.left filter.now)) (Some (take (length rows.now) last.now)) rows.now) }
-    ensures next { (shaped (A.Source.graph arrangement.now) (R.Source.graph room.now) rows.now && nat_le (length rows.now) (length last.now)) ≡ true → Searched (SoughtAfter (A.Source.graph arrangement.now) (R.Source.graph room.now) strict rows.now (take (length rows.now) last.now)) (length rows.now) (walk (setting (A.Source.graph arrangement.now) (R.Source.graph room.now) strict (F.Filter.left filter.now)) (Some (take (length rows.now) last.now)) rows.now).tries result }
+    ensures answer { result ≡ answer_of (shaped (A.Source.graph problem.now.arrangement.now) (R.Source.graph problem.now.room.now) rows.now && nat_le (length rows.now) (length last.now)) (walk (setting (A.Source.graph problem.now.arrangement.now) (R.Source.graph problem.now.room.now) problem.now.strict (F.Filter.left filter.now)) (Some (take (length rows.now) last.now)) rows.now) }
+    ensures next { (shaped (A.Source.graph problem.now.arrangement.now) (R.Source.graph problem.now.room.now) rows.now && nat_le (length rows.now) (length last.now)) ≡ true → Searched (SoughtAfter (A.Source.graph problem.now.arrangement.now) (R.Source.graph problem.now.room.now) problem.now.strict rows.now (take (length rows.now) last.now)) (length rows.now) (walk (setting (A.Source.graph problem.now.arrangement.now) (R.Source.graph problem.now.room.now) problem.now.strict (F.Filter.left filter.now)) (Some (take (length rows.now) last.now)) rows.now).tries result }
     ensures theorem { FindsNext }
     ensures counted { CountsTries }
 {
-    if !(well_shaped(arrangement, room, rows) & (rows.len() <= last.len())) {
+    if !(well_shaped(problem, rows) & (rows.len() <= last.len())) {
         return Err(SearchError::IllShaped);
     }
     let before = &last[0..rows.len()];
-    search_rows(arrangement, room, strict, filter, before, true, rows)
+    search_rows(problem, filter, before, true, rows)
 }

@@ -5,19 +5,19 @@ use Rattle.search.proofs.attempt.Goals as goal
 
 pub narrow-changed-requires : goal.narrow-changed-requires
 narrow-changed-requires g c =
-    let w : Setting = setting (g.A.Source.graph c.args.arrangement.now) (g.R.Source.graph c.args.room.now) c.args.strict (g.F.Filter.left c.args.filter.now) in
+    let w : Setting = setting (g.A.Source.graph c.args.problem.now.arrangement.now) (g.R.Source.graph c.args.problem.now.room.now) c.args.problem.now.strict (g.F.Filter.left c.args.filter.now) in
     record {
       same = c.requires.same;
       few = c.requires.few;
       unit = c.requires.unit;
       bay = (let l = left_under w c.args.rows.now (g.met.F.Filter.lawful c.args.filter.now) c.requires.left c.args.u c.args.b c.requires.held in
-          let few = (g.R.Source.sound c.args.room.now).few in omega arith);
+          let few = (g.R.Source.sound c.args.problem.now.room.now).few in omega arith);
     }
 
 pub returns : goal.returns
 returns g c =
-    let w : Setting = setting (g.A.Source.graph c.args.arrangement.now) (g.R.Source.graph c.args.room.now) c.args.strict (g.F.Filter.left c.args.filter.now) in
-    let f : List ℕ → List ℕ = g.F.Filter.left c.args.filter.now (g.A.Source.graph c.args.arrangement.now) (g.R.Source.graph c.args.room.now) c.args.strict in
+    let w : Setting = setting (g.A.Source.graph c.args.problem.now.arrangement.now) (g.R.Source.graph c.args.problem.now.room.now) c.args.problem.now.strict (g.F.Filter.left c.args.filter.now) in
+    let f : List ℕ → List ℕ = g.F.Filter.left c.args.filter.now (g.A.Source.graph c.args.problem.now.arrangement.now) (g.R.Source.graph c.args.problem.now.room.now) c.args.problem.now.strict in
     let from = c.requires.left in
     record {
       left = c.resume-counts.ensures.resumes from.before from.shape

@@ -13,7 +13,7 @@ use Rattle.search.proofs.first.Goals as goal
 
 pub returns-then-not-well_shaped : goal.returns-then-not-well_shaped
 returns-then-not-well_shaped g c =
-    let w : Setting = setting (g.A.Source.graph c.args.arrangement.now) (g.R.Source.graph c.args.room.now) c.args.strict (g.F.Filter.left c.args.filter.now) in
+    let w : Setting = setting (g.A.Source.graph c.args.problem.now.arrangement.now) (g.R.Source.graph c.args.problem.now.room.now) c.args.problem.now.strict (g.F.Filter.left c.args.filter.now) in
     let ill : shaped w.arrangement w.room c.args.rows.now ≡ false = sym c.well_shaped.ensures ∙ c.if-not-well_shaped.true in
     record {
       answer = declined (shaped w.arrangement w.room c.args.rows.now) (walk_from w [] false c.args.rows.now) ill;
@@ -27,7 +27,7 @@ returns-then-not-well_shaped g c =
 
 pub returns : goal.returns
 returns g c =
-    let w : Setting = setting (g.A.Source.graph c.args.arrangement.now) (g.R.Source.graph c.args.room.now) c.args.strict (g.F.Filter.left c.args.filter.now) in
+    let w : Setting = setting (g.A.Source.graph c.args.problem.now.arrangement.now) (g.R.Source.graph c.args.problem.now.room.now) c.args.problem.now.strict (g.F.Filter.left c.args.filter.now) in
     let rows = c.args.rows.now in
     let ok : shaped w.arrangement w.room rows ≡ true = sym c.well_shaped.ensures ∙ c.if-not-well_shaped.false in
     let o : Outcome = walk_from w [] false rows in
@@ -37,7 +37,7 @@ returns g c =
       answer = accepted (shaped w.arrangement w.room rows) o c.search_rows.result ok is;
       first = λ _. searched (Sought w.arrangement w.room w.strict rows) (length rows) o c.search_rows.result is
           (λ q h. h.0.whole ∙ sym (shape_of w.arrangement w.room rows ok).many)
-          (finds_first w rows (g.met.F.Filter.lawful c.args.filter.now) (g.A.Source.sound c.args.arrangement.now) (g.R.Source.sound c.args.room.now) ok);
+          (finds_first w rows (g.met.F.Filter.lawful c.args.filter.now) (g.A.Source.sound c.args.problem.now.arrangement.now) (g.R.Source.sound c.args.problem.now.room.now) ok);
       theorem = finds_first;
       counted = counts_tries;
       alike = filters_alike;

@@ -11,7 +11,7 @@ use Rattle.search.proofs.next_after.Goals as goal
 
 pub returns-then-not-well_shaped-rows : goal.returns-then-not-well_shaped-rows
 returns-then-not-well_shaped-rows g c =
-    let w : Setting = setting (g.A.Source.graph c.args.arrangement.now) (g.R.Source.graph c.args.room.now) c.args.strict (g.F.Filter.left c.args.filter.now) in
+    let w : Setting = setting (g.A.Source.graph c.args.problem.now.arrangement.now) (g.R.Source.graph c.args.problem.now.room.now) c.args.problem.now.strict (g.F.Filter.left c.args.filter.now) in
     let rows = c.args.rows.now in
     let last = c.args.last.now in
     let ill : (shaped w.arrangement w.room rows && leb (length rows) (length last)) ≡ false =
@@ -25,7 +25,7 @@ returns-then-not-well_shaped-rows g c =
 
 pub returns : goal.returns
 returns g c =
-    let w : Setting = setting (g.A.Source.graph c.args.arrangement.now) (g.R.Source.graph c.args.room.now) c.args.strict (g.F.Filter.left c.args.filter.now) in
+    let w : Setting = setting (g.A.Source.graph c.args.problem.now.arrangement.now) (g.R.Source.graph c.args.problem.now.room.now) c.args.problem.now.strict (g.F.Filter.left c.args.filter.now) in
     let rows = c.args.rows.now in
     let last = c.args.last.now in
     let ok : (shaped w.arrangement w.room rows && leb (length rows) (length last)) ≡ true =
@@ -39,7 +39,7 @@ returns g c =
       answer = accepted (shaped w.arrangement w.room rows && leb (length rows) (length last)) o c.search_rows.result ok is;
       next = λ _. searched (SoughtAfter w.arrangement w.room w.strict rows before) (length rows) o c.search_rows.result is
           (λ q h. h.0.whole ∙ sym (shape_of w.arrangement w.room rows sh).many)
-          (finds_next w rows before (g.met.F.Filter.lawful c.args.filter.now) (g.A.Source.sound c.args.arrangement.now) (g.R.Source.sound c.args.room.now) sh);
+          (finds_next w rows before (g.met.F.Filter.lawful c.args.filter.now) (g.A.Source.sound c.args.problem.now.arrangement.now) (g.R.Source.sound c.args.problem.now.room.now) sh);
       theorem = finds_next;
       counted = counts_tries;
     }

@@ -6,14 +6,14 @@ use Rattle.search.proofs.search_rows.Goals as goal
 
 pub returns-then-apply-gt0 : goal.returns-then-apply-gt0
 returns-then-apply-gt0 g c =
-    let w : Setting = setting (g.A.Source.graph c.args.arrangement.now) (g.R.Source.graph c.args.room.now) c.args.strict (g.F.Filter.left c.args.filter.now) in
+    let w : Setting = setting (g.A.Source.graph c.args.problem.now.arrangement.now) (g.R.Source.graph c.args.problem.now.room.now) c.args.problem.now.strict (g.F.Filter.left c.args.filter.now) in
     let left : c.apply.new.rows ≡ filtered w c.args.rows.now = c.apply.ensures.rows ∙ ap (filtered w) c.copy_from_slice.ensures.after in
     answers_empty w c.args.last.now c.args.tied c.args.rows.now c.apply.new.rows left c.apply.result.empty c.apply.ensures.counts.empty
     c.if-apply-gt0.true
 
 pub returns-in-Some : goal.returns-in-Some
 returns-in-Some g c =
-    let w : Setting = setting (g.A.Source.graph c.args.arrangement.now) (g.R.Source.graph c.args.room.now) c.args.strict (g.F.Filter.left c.args.filter.now) in
+    let w : Setting = setting (g.A.Source.graph c.args.problem.now.arrangement.now) (g.R.Source.graph c.args.problem.now.room.now) c.args.problem.now.strict (g.F.Filter.left c.args.filter.now) in
     let left : c.apply.new.rows ≡ filtered w c.args.rows.now = c.apply.ensures.rows ∙ ap (filtered w) c.copy_from_slice.ensures.after in
     let long : length c.args.rows.now ≡ w.arrangement.count = (shape_of w.arrangement w.room c.args.rows.now c.requires.shape).many in
     answers_some w c.args.last.now c.args.tied c.args.rows.now c.apply.new.rows left c.apply.result.empty c.apply.ensures.counts.empty
@@ -22,7 +22,7 @@ returns-in-Some g c =
 
 pub returns-in-None : goal.returns-in-None
 returns-in-None g c =
-    let w : Setting = setting (g.A.Source.graph c.args.arrangement.now) (g.R.Source.graph c.args.room.now) c.args.strict (g.F.Filter.left c.args.filter.now) in
+    let w : Setting = setting (g.A.Source.graph c.args.problem.now.arrangement.now) (g.R.Source.graph c.args.problem.now.room.now) c.args.problem.now.strict (g.F.Filter.left c.args.filter.now) in
     let left : c.apply.new.rows ≡ filtered w c.args.rows.now = c.apply.ensures.rows ∙ ap (filtered w) c.copy_from_slice.ensures.after in
     let long : length c.args.rows.now ≡ w.arrangement.count = (shape_of w.arrangement w.room c.args.rows.now c.requires.shape).many in
     answers_none w c.args.last.now c.args.tied c.args.rows.now c.apply.new.rows left c.apply.result.empty c.apply.ensures.counts.empty

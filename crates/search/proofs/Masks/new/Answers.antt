@@ -9,8 +9,8 @@ use Rattle.search.proofs.Masks.new.Goals as goal
 
 pub returns : goal.returns
 returns g c out back =
-    let r : Graph = g.R.Source.graph c.args.room.now in
-    let s = c.args.strict in
+    let r : Graph = g.R.Source.graph c.args.problem.now.room.now in
+    let s = c.args.problem.now.strict in
     let b = c.args.b in
     let m : Masks = record { both = c.agreeing.result; out = c.agreeing-2.result; back = c.agreeing-3.result; apart = c.agreeing-4.result } in
     let P : Bool → Bool → Type 0 = λ o k. picked m o k ≡ row_of r.count (λ x. agrees_if r o k s b x) in
