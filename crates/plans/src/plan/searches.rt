@@ -14,18 +14,18 @@ use crate::refusal::Refusal;
 use filters::Filter;
 use graphs::Source;
 use graphs::pairs::without;
+use placements::Problem;
 use search::{Find, SearchError, first, next_after};
 
 // Declines sources of other counts.
 fn same_counts<A: Source, R: Source>(
-    arrangement: &A,
-    room: &R,
+    problem: &Problem<A, R>,
     units: usize,
     bays: usize,
 ) -> Result<(), Refusal>
-    ensures { Tests (unless OtherCount (counts_other (A.Source.graph arrangement.now) (R.Source.graph room.now) units bays)) result }
+    ensures { Tests (unless OtherCount (counts_other (A.Source.graph problem.now.arrangement.now) (R.Source.graph problem.now.room.now) units bays)) result }
 {
-    if arrangement.count() != units || room.count() != bays {
+    if problem.arrangement.count() != units || problem.room.count() != bays {
         return Err(Refusal::OtherCount);
     }
     Ok(())
@@ -45,39 +45,33 @@ fn outcome(answer: Result<Find, SearchError>) -> Result<Find, Refusal>
 
 impl Plan {
     // The open rows, where there is a fit and the sources have the plan's counts.
-    fn open_rows<A: Source, R: Source>(
-        &self,
-        arrangement: &A,
-        room: &R,
-    ) -> Result<[u64; 24], Refusal>
-        ensures tests { Tests (λ v. unless NoFit (no_fit (view self.now).fitted) (unless OtherCount (counts_other (A.Source.graph arrangement.now) (R.Source.graph room.now) self.now.units self.now.bays) v)) result }
+    fn open_rows<A: Source, R: Source>(&self, problem: &Problem<A, R>) -> Result<[u64; 24], Refusal>
+        ensures tests { Tests (λ v. unless NoFit (no_fit (view self.now).fitted) (unless OtherCount (counts_other (A.Source.graph problem.now.arrangement.now) (R.Source.graph problem.now.room.now) self.now.units self.now.bays) v)) result }
         ensures rows { IfOk result (λ rows. (u b : ℕ) → pairs rows u b ≡ open_pairs (view self.now) u b) }
     {
         let Some(fitted) = &self.fitted else {
             return Err(Refusal::NoFit);
         };
-        same_counts(arrangement, room, self.units, self.bays)?;
+        same_counts(problem, self.units, self.bays)?;
         Ok(without(fitted, &self.struck))
     }
 
     // The first placement within the open pairs, into the buffer, with the tries.
     pub fn seek<A: Source, R: Source, F: Filter>(
         &mut self,
-        arrangement: &A,
-        room: &R,
-        strict: bool,
+        problem: &Problem<A, R>,
         filter: &F,
         out: &mut [u8],
     ) -> Result<u32, Refusal>
-        ensures step { Step self.old (turn (seek (setting (A.Source.graph arrangement.now) (R.Source.graph room.now) strict (F.Filter.left filter.now)) out.old) (finding result) out.new) self.new }
-        ensures shows { Shows (seek (setting (A.Source.graph arrangement.now) (R.Source.graph room.now) strict (F.Filter.left filter.now)) out.old) }
+        ensures step { Step self.old (turn (seek (setting (A.Source.graph problem.now.arrangement.now) (R.Source.graph problem.now.room.now) problem.now.strict (F.Filter.left filter.now)) out.old) (finding result) out.new) self.new }
+        ensures shows { Shows (seek (setting (A.Source.graph problem.now.arrangement.now) (R.Source.graph problem.now.room.now) problem.now.strict (F.Filter.left filter.now)) out.old) }
     {
         let units = self.units;
-        let rows = self.open_rows(arrangement, room)?;
+        let rows = self.open_rows(problem)?;
         if out.len() < units {
             return Err(Refusal::ShortBuffer);
         }
-        let find = outcome(first(arrangement, room, strict, filter, &rows[..units]))?;
+        let find = outcome(first(problem, filter, &rows[..units]))?;
         out[..units].copy_from_slice(&find.bays[..units]);
         self.last = Some(find.bays);
         Ok(find.tries)
@@ -86,22 +80,20 @@ impl Plan {
     // The first placement after the last answer, into the buffer, with the tries.
     pub fn further<A: Source, R: Source, F: Filter>(
         &mut self,
-        arrangement: &A,
-        room: &R,
-        strict: bool,
+        problem: &Problem<A, R>,
         filter: &F,
         out: &mut [u8],
     ) -> Result<u32, Refusal>
-        ensures step { Step self.old (turn (further (setting (A.Source.graph arrangement.now) (R.Source.graph room.now) strict (F.Filter.left filter.now)) out.old) (finding result) out.new) self.new }
-        ensures shows { Shows (further (setting (A.Source.graph arrangement.now) (R.Source.graph room.now) strict (F.Filter.left filter.now)) out.old) }
+        ensures step { Step self.old (turn (further (setting (A.Source.graph problem.now.arrangement.now) (R.Source.graph problem.now.room.now) problem.now.strict (F.Filter.left filter.now)) out.old) (finding result) out.new) self.new }
+        ensures shows { Shows (further (setting (A.Source.graph problem.now.arrangement.now) (R.Source.graph problem.now.room.now) problem.now.strict (F.Filter.left filter.now)) out.old) }
     {
         let units = self.units;
-        let rows = self.open_rows(arrangement, room)?;
+        let rows = self.open_rows(problem)?;
         let last = self.last.ok_or(Refusal::NoLastAnswer)?;
         if out.len() < units {
             return Err(Refusal::ShortBuffer);
         }
-        let next = outcome(next_after(arrangement, room, strict, filter, &rows[..units], &last))?;
+        let next = outcome(next_after(problem, filter, &rows[..units], &last))?;
         out[..units].copy_from_slice(&next.bays[..units]);
         self.last = Some(next.bays);
         Ok(next.tries)
@@ -112,13 +104,11 @@ impl Plan {
         &mut self,
         unit: usize,
         bay: usize,
-        arrangement: &A,
-        room: &R,
-        strict: bool,
+        problem: &Problem<A, R>,
         filter: &F,
     ) -> Result<u32, Refusal>
-        ensures step { Step self.old (turn (what_if unit bay (setting (A.Source.graph arrangement.now) (R.Source.graph room.now) strict (F.Filter.left filter.now))) (asking result) []) self.new }
-        ensures shows { Shows (what_if unit bay (setting (A.Source.graph arrangement.now) (R.Source.graph room.now) strict (F.Filter.left filter.now))) }
+        ensures step { Step self.old (turn (what_if unit bay (setting (A.Source.graph problem.now.arrangement.now) (R.Source.graph problem.now.room.now) problem.now.strict (F.Filter.left filter.now))) (asking result) []) self.new }
+        ensures shows { Shows (what_if unit bay (setting (A.Source.graph problem.now.arrangement.now) (R.Source.graph problem.now.room.now) problem.now.strict (F.Filter.left filter.now))) }
     {
         self.in_range(unit, bay)?;
         let units = self.units;
@@ -126,7 +116,7 @@ impl Plan {
         let Some(fitted) = &mut self.fitted else {
             return Err(Refusal::NoFit);
         };
-        same_counts(arrangement, room, units, self.bays)?;
+        same_counts(problem, units, self.bays)?;
         let saved = fitted[unit];
         let guard = Narrowed {
             rows: fitted,
@@ -135,7 +125,7 @@ impl Plan {
         };
         guard.rows[unit] = saved & (1 << bay);
         let rows = without(guard.rows, &struck);
-        let find = outcome(first(arrangement, room, strict, filter, &rows[..units]))?;
+        let find = outcome(first(problem, filter, &rows[..units]))?;
         Ok(find.tries)
     }
 }

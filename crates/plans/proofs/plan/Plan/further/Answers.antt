@@ -10,10 +10,10 @@ use Rattle.plans.proofs.plan.Plan.further.Goals.{After-next_after}
 use Rattle.plans.proofs.plan.Plan.further.Goals as goal
 
 abbrev shown : (g : Over) → After-next_after g → Setting
-shown g c = setting (g.A.Source.graph c.args.arrangement.now) (g.R.Source.graph c.args.room.now) c.args.strict (g.F.Filter.left c.args.filter.now)
+shown g c = setting (g.A.Source.graph c.args.problem.now.arrangement.now) (g.R.Source.graph c.args.problem.now.room.now) c.args.problem.now.strict (g.F.Filter.left c.args.filter.now)
 
 fair : (g : Over) (c : After-next_after g) → Fair (shown g c)
-fair g c = record { arrangement = g.A.Source.sound c.args.arrangement.now; room = g.R.Source.sound c.args.room.now; filter = g.met.F.Filter.lawful c.args.filter.now }
+fair g c = record { arrangement = g.A.Source.sound c.args.problem.now.arrangement.now; room = g.R.Source.sound c.args.problem.now.room.now; filter = g.met.F.Filter.lawful c.args.filter.now }
 
 was : (g : Over) (c : After-next_after g) → c.args.self.now.last ≡ Some c.in_ok-last.last
 was g c = grind arith

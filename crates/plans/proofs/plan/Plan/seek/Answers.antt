@@ -10,10 +10,10 @@ use Rattle.plans.proofs.plan.Plan.seek.Goals.{After-first}
 use Rattle.plans.proofs.plan.Plan.seek.Goals as goal
 
 abbrev shown : (g : Over) → After-first g → Setting
-shown g c = setting (g.A.Source.graph c.args.arrangement.now) (g.R.Source.graph c.args.room.now) c.args.strict (g.F.Filter.left c.args.filter.now)
+shown g c = setting (g.A.Source.graph c.args.problem.now.arrangement.now) (g.R.Source.graph c.args.problem.now.room.now) c.args.problem.now.strict (g.F.Filter.left c.args.filter.now)
 
 fair : (g : Over) (c : After-first g) → Fair (shown g c)
-fair g c = record { arrangement = g.A.Source.sound c.args.arrangement.now; room = g.R.Source.sound c.args.room.now; filter = g.met.F.Filter.lawful c.args.filter.now }
+fair g c = record { arrangement = g.A.Source.sound c.args.problem.now.arrangement.now; room = g.R.Source.sound c.args.problem.now.room.now; filter = g.met.F.Filter.lawful c.args.filter.now }
 
 looks : (g : Over) (c : After-first g) → Looks c.args.self.now (shown g c) None c.args.out.now (seek (shown g c) c.args.out.now)
 looks g c = seek_looks c.args.self.now (shown g c) c.args.out.now c.in_ok-rows.ensures.tests c.if-out-units.false

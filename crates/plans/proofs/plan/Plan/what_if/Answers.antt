@@ -16,10 +16,10 @@ put_back : (rows now : List ℕ) (u x : ℕ) → now ≡ set (set rows u x) u (g
 put_back rows now u x e = e ∙ set-set rows u x (get_or rows u 0) ∙ set-get_or rows u 0
 
 abbrev shown : (g : Over) → After-first g → Setting
-shown g c = setting (g.A.Source.graph c.args.arrangement.now) (g.R.Source.graph c.args.room.now) c.args.strict (g.F.Filter.left c.args.filter.now)
+shown g c = setting (g.A.Source.graph c.args.problem.now.arrangement.now) (g.R.Source.graph c.args.problem.now.room.now) c.args.problem.now.strict (g.F.Filter.left c.args.filter.now)
 
 fair : (g : Over) (c : After-first g) → Fair (shown g c)
-fair g c = record { arrangement = g.A.Source.sound c.args.arrangement.now; room = g.R.Source.sound c.args.room.now; filter = g.met.F.Filter.lawful c.args.filter.now }
+fair g c = record { arrangement = g.A.Source.sound c.args.problem.now.arrangement.now; room = g.R.Source.sound c.args.problem.now.room.now; filter = g.met.F.Filter.lawful c.args.filter.now }
 
 came : (g : Over) (c : After-first g) → Came c.args.self.now (shown g c) (held_to (open_pairs (view c.args.self.now)) c.args.unit c.args.bay) None c.first.result
 came g c =
