@@ -1,8 +1,7 @@
 -- Every run goes on with every call. Assumes nothing.
-use Rattle.std.proofs.Common.{◌≡◌, ℕ, zero, suc, ◌<◌, ◌≤◌, Bool, true, false, not, List, [], ◌∷◌, length, get_or, take, Some, None, Option, sym, refl, ap, ◌∙◌, subst, inl, inr, ⊎_elim, arith, take_all, pow_pos}
+use Rattle.std.proofs.Common.{◌≡◌, ℕ, ◌<◌, ◌≤◌, not, List, [], length, get_or, Some, None, Option, sym, refl, ap, ◌∙◌, inl, inr, arith, take_all, pow_pos}
 use mathlib.Core.Bool.{false≢true}
-use Rattle.std.proofs.lemmas.List.{get_or_past, get_or-take}
-use Rattle.std.proofs.lemmas.Bool.{cases_lt}
+use Rattle.std.proofs.lemmas.List.{get_or_past, length-take}
 use Rattle.refusals.specs.declared.Reason.TheVariants as R
 use Rattle.graphs.specs.Rows.{Pairs, pairs, rows_of}
 use Rattle.graphs.proofs.PairSets.{rows_length, rows_low, pairs_back, none_past, none_beyond}
@@ -11,7 +10,7 @@ use Rattle.tables.specs.Shape.{Inside, Blank}
 use Rattle.search.specs.Walk.{Setting}
 use Rattle.ledgers.specs.Calls.{Call, begin, «open», strike, free, fit, fit_further, seek, further, what_if, tally, save, Answer, done, number, found, yes, none, refused, buffer_of}
 use Rattle.ledgers.specs.Wanted.{Wanted, held_to, wanted}
-use Rattle.ledgers.specs.Ledger.{Ledger, Fitting, unfitted, fits, no_pairs, Verdict, accepted, declined, verdict, made, with_find, open_pairs, find_in, form_of}
+use Rattle.ledgers.specs.Ledger.{Ledger, Fitting, unfitted, fits, Verdict, accepted, declined, verdict, made, with_find, open_pairs, find_in, form_of}
 use Rattle.ledgers.specs.Answered.{over, how_many, tries_in, Open, Finds, Answered}
 use Rattle.ledgers.specs.Ranged.{Ranged}
 use Rattle.placements.specs.Listing.{find}
@@ -21,19 +20,9 @@ use Rattle.ledgers.proofs.Good.{FitsIn, AnswersIn, Good, Readable, good_made}
 use Rattle.plans.specs.Bounds.{Low, numbers_in}
 use Rattle.plans.specs.Step.{fitting, shortened, view, turn, Step, Shows}
 use Rattle.plans.specs.declared.plan.Plan.{Plan}
-use Rattle.plans.proofs.Steps.{declined_step, accepted_step, done_step, same_self, of}
+use Rattle.plans.proofs.Steps.{declined_step, accepted_step, done_step, same_self, of, low_take}
 
 -- ---- what a plan holds is a good ledger
-
-short : (m : ℕ) (w : List ℕ) → length (take m w) ≤ m
-short zero w = omega arith
-short (suc m) [] = omega arith
-short (suc m) (x ∷ w) = let r = short m w in omega arith
-
-low_take : (m n : ℕ) (w : List ℕ) → 1 ≤ n → Low n w → (u : ℕ) → get_or (take m w) u 0 < n
-low_take m n w pos low u =
-    ⊎_elim (λ lt. let P : ℕ → Type 0 = λ x. x < n in subst P (sym (get_or-take m w u 0 lt)) (low u))
-    (λ ge. let P : ℕ → Type 0 = λ x. x < n in subst P (sym (get_or_past (take m w) u 0 (let s = short m w in omega arith))) pos) (cases_lt u m)
 
 good_view : (p : Plan) → Good (view p)
 good_view p =
@@ -56,7 +45,7 @@ good_view p =
 
     last_in : (o : Option (List ℕ)) → Low p.bays (numbers_in o) → AnswersIn p.units p.bays (shortened p.units o)
     last_in None low = tt
-    last_in (Some w) low = (short p.units w, low_take p.units p.bays w p.some_bays low)
+    last_in (Some w) low = (let s = length-take p.units w in omega arith, low_take p.units p.bays w p.some_bays low)
 
 -- ---- a plan that holds a given ledger
 

@@ -1,11 +1,11 @@
 -- Plans opened and saved. Assumes nothing.
-use Rattle.std.proofs.Common.{◌≡◌, ℕ, ◌+◌, ◌^◌, ◌<◌, ◌≤◌, Bool, true, false, cond, ltb, List, [], length, get_or, take, set, None, Ok, Err, Result, MatchResult, IsErrAnd, sym, refl, ap, ◌∙◌, subst, ⊎_elim, arith, pow_pos}
+use Rattle.std.proofs.Common.{◌≡◌, ℕ, ◌^◌, ◌<◌, ◌≤◌, true, false, ltb, List, [], length, get_or, take, Ok, Err, Result, MatchResult, IsErrAnd, sym, refl, ap, ◌∙◌, subst, ⊎_elim, arith, pow_pos}
 use mathlib.Core.Path.{fun_ext}
-use Rattle.std.proofs.lemmas.List.{get_or_past, length-take-le, get_or-take, get_or-set_same, get_or-set_other, length-set}
+use Rattle.std.proofs.lemmas.List.{get_or_past, length-take-le}
 use Rattle.std.proofs.lemmas.Result.{MatchResult-at_ok, MatchResult-at_err, err_from_is_err_and}
-use Rattle.std.proofs.lemmas.Bool.{cases_lt, cases_eq, cases_Bool, cond-true, cond-false, ltb-false, lt-ltb, le-ltb}
+use Rattle.std.proofs.lemmas.Bool.{cases_Bool, cond-true, cond-false, ltb-false}
 use Rattle.refusals.specs.declared.Reason.TheVariants.{NoRoom}
-use Rattle.graphs.specs.Rows.{bit, pairs, rows_of}
+use Rattle.graphs.specs.Rows.{bit, pairs}
 use Rattle.graphs.proofs.PairSets.{take_rows}
 use Rattle.text.proofs.Lay.{lay_front}
 use Rattle.tables.specs.declared.fault.SaveFault.{SaveFault}
@@ -16,7 +16,7 @@ use Rattle.tables.specs.Form.{Form, view as form_in, form_of as cut_form}
 use Rattle.tables.specs.Saved.{Saved}
 use Rattle.tables.proofs.Tables.{form_kept}
 use Rattle.saved.specs.Plan.{PlanLawful, plan_bytes, read_plan}
-use Rattle.ledgers.specs.Calls.{«open», save, rule, done, number, refused}
+use Rattle.ledgers.specs.Calls.{«open», save, rule, done, number}
 use Rattle.ledgers.specs.Ledger.{readable, opened, form_of}
 use Rattle.ledgers.specs.Answered.{over}
 use Rattle.plans.specs.declared.refusal.Refusal.{Refusal}
@@ -24,7 +24,7 @@ use Rattle.plans.specs.declared.refusal.Refusal.TheVariants as P
 use Rattle.plans.specs.Refused.{saving}
 use Rattle.plans.specs.Step.{fitting, shortened, view, Started, Step, turn}
 use Rattle.plans.specs.declared.plan.Plan.{Plan}
-use Rattle.plans.proofs.Steps.{declined_step, accepted_step, done_step, same_self, of}
+use Rattle.plans.proofs.Steps.{declined_step, accepted_step, done_step, same_self, of, low_take}
 
 -- ---- open
 
@@ -53,14 +53,8 @@ saved_table : (p : Plan) (t : Table) → p.units ≤ length p.struck → form_in
 saved_table p t long e =
     let part = take p.units p.struck in
     ap plan_bytes
-    (e ∙ form_kept p.bays part (record { few_rows = omega (arith, p.few_units, length-take-le p.units p.struck long); few_columns = p.few_bays; inside = low })
+    (e ∙ form_kept p.bays part (record { few_rows = omega (arith, p.few_units, length-take-le p.units p.struck long); few_columns = p.few_bays; inside = low_take p.units (2 ^ p.bays) p.struck (pow_pos p.bays) p.inside })
     ∙ ap (λ x. record { columns = p.bays; rows = x }) (take_rows p.units p.bays p.struck long p.inside))
-  where
-    low : Inside p.bays (take p.units p.struck)
-    low u =
-        let P : ℕ → Type 0 = λ x. x < 2 ^ p.bays in
-        ⊎_elim (λ lt. subst P (sym (get_or-take p.units p.struck u 0 lt)) (p.inside u))
-        (λ ge. subst P (sym (get_or_past (take p.units p.struck) u 0 (omega (arith, length-take-le p.units p.struck long)))) (pow_pos p.bays)) (cases_lt u p.units)
 
 pub save_step :
     (p : Plan) (t : Table) (out out' : List ℕ) (x : Result ℕ SaveFault) (r : Result ℕ Refusal) → p.units ≤ length p.struck → form_in t ≡ cut_form p.bays (take p.units p.struck)

@@ -1,12 +1,13 @@
 -- What seek, further and what-if answer. Assumes nothing.
-use Rattle.std.proofs.Common.{◌≡◌, ℕ, zero, suc, ◌-◌, ◌*◌, ◌%◌, ◌^◌, ◌<◌, ◌≤◌, Bool, true, false, cond, not, ◌&&◌, eqb, leb, List, [], ◌∷◌, ◌++◌, length, get_or, take, drop, set, replicate, Some, None, Ok, Err, Option, Result, IsErrAnd, sym, refl, ap, ◌∙◌, subst, ap₂, inl, inr, ⊎_elim, arith}
+use Rattle.std.proofs.Common.{◌≡◌, ℕ, ◌-◌, ◌*◌, ◌%◌, ◌^◌, ◌<◌, ◌≤◌, Bool, true, false, cond, not, ◌&&◌, eqb, leb, List, [], ◌++◌, length, get_or, take, drop, set, replicate, Some, None, Ok, Err, Option, Result, IsErrAnd, sym, refl, ap, ◌∙◌, subst, ap₂, inl, inr, ⊎_elim, arith}
 use mathlib.Core.Path.{fun_ext}
 use mathlib.Core.Bool.{false≢true}
 use lib.Bits.{bit_and}
 use Rattle.std.proofs.lemmas.List.{get_or-set_same, get_or-set_other, get_or_past, get_or-take, length-take-le}
+use Rattle.std.proofs.Math.Seq.{get_or-append_right, take-append_seam}
 use Rattle.std.proofs.lemmas.Nat.{one_shl}
 use Rattle.std.proofs.lemmas.Result.{err_from_is_err_and}
-use Rattle.std.proofs.lemmas.Bool.{cases_eq, cases_lt, cond-true, cond-false, eq-eqb, ne_eqb, le-ltb, le-leb}
+use Rattle.std.proofs.lemmas.Bool.{cases_eq, cases_lt, cond-false, eq-eqb, ne_eqb, le-ltb, le-leb}
 use Rattle.graphs.specs.Rows.{bit, Pairs, pairs, rows_of}
 use Rattle.graphs.proofs.Bits.{bit_of_and, bit_one}
 use Rattle.graphs.proofs.PairSets.{take_rows, low_by, blank_by, none_past, none_beyond}
@@ -21,7 +22,7 @@ use Rattle.search.specs.declared.SearchError.TheVariants.{IllShaped, NoPlacement
 use Rattle.search.specs.Walk.{Setting, walk}
 use Rattle.search.specs.Found.{told, padded, answer_with, answer_of, Sought, SoughtAfter, FindsFirst, FindsNext}
 use Rattle.refusals.specs.declared.Reason.TheVariants as R
-use Rattle.ledgers.specs.Calls.{Call, seek, further, what_if, rule, Answer, yes, none, found, refused}
+use Rattle.ledgers.specs.Calls.{Call, seek, further, what_if, rule, Answer, yes, none, found}
 use Rattle.ledgers.specs.Wanted.{Wanted, held_to, Fair}
 use Rattle.ledgers.specs.Ledger.{no_last, no_fit, Verdict, accepted, declined, unless, outside, other_counts, verdict, made, with_find, newest, open_in, open_pairs, find_in}
 use Rattle.ledgers.specs.Answered.{tries_in, Open, Finds, Asks, Answered}
@@ -141,16 +142,7 @@ from_wanted s part None w h = (h.placed, h.within)
 from_wanted s part (Some last) w h = (h.placed, h.within, h.after)
 
 padded_blank : (w : List ℕ) → Blank (length w) (padded w)
-padded_blank w = go w (24 - length w)
-  where
-    go : (w : List ℕ) (k : ℕ) → Blank (length w) (w ++ replicate k 0)
-    go [] k u le = zeros k u
-    go (x ∷ w) k zero le = absurd (omega arith)
-    go (x ∷ w) k (suc u) le = go w k u (omega arith)
-
-front : (w rest : List ℕ) → take (length w) (w ++ rest) ≡ w
-front [] rest = refl
-front (x ∷ w) rest = ap (λ y. x ∷ y) (front w rest)
+padded_blank w u le = get_or-append_right w (replicate (24 - length w) 0) u 0 le ∙ zeros (24 - length w) (u - length w)
 
 -- what is read off a find: the first wanted placement, with zeros behind it, and the tries
 pub record Got (p : Plan) (s : Setting) (r : Pairs) (o : Option (List ℕ)) (x : List ℕ) (t : ℕ) : Type 0 where
@@ -200,7 +192,7 @@ came p s part r o ok x y is answers e =
         subst (λ q. IsFirst (Wanted s q o) w) y.stands.pairs_are
         (answers_like (Looked s part o) (Wanted s (pairs part) o) (to_wanted s part o) (from_wanted s part o) (Some w) a) in
         let long : length w ≡ p.units = first.holds.placed.whole ∙ y.units in
-        let top : take p.units (padded w) ≡ w = ap (λ k. take k (padded w)) (sym long) ∙ front w (replicate (24 - length w) 0) in
+        let top : take p.units (padded w) ≡ w = ap (λ k. take k (padded w)) (sym long) ∙ take-append_seam w (replicate (24 - length w) 0) in
         let blank : Blank p.units (padded w) = subst (λ k. Blank k (padded w)) long (padded_blank w) in
         let here : IsFirst (Wanted s r o) (take p.units (padded w)) = subst (IsFirst (Wanted s r o)) (sym top) first in
         record { first = here; tries = tries_are; low = find_low p s r o y.units y.bays (padded w) here blank; blank = blank }

@@ -1,15 +1,15 @@
 -- From what a call does to the record to its step. Assumes nothing.
-use Rattle.std.proofs.Common.{◌≡◌, ℕ, ◌≤◌, true, false, List, [], ◌∷◌, length, get_or, replicate, None, Option, sym, refl, ap, ◌∙◌, subst, ⊎_elim, arith, pow_pos}
+use Rattle.std.proofs.Common.{◌≡◌, ℕ, ◌<◌, ◌≤◌, true, false, List, [], ◌∷◌, length, get_or, take, replicate, Option, sym, refl, ap, ◌∙◌, subst, ⊎_elim, arith}
 use mathlib.Core.Path.{fun_ext}
 use mathlib.Core.Bool.{false≢true}
-use Rattle.std.proofs.lemmas.List.{get_or-replicate, length-replicate, get_or_past}
+use Rattle.std.proofs.lemmas.List.{get_or-replicate, length-replicate, get_or_past, get_or-take, length-take}
 use Rattle.std.proofs.lemmas.Bool.{cases_lt, le-ltb, or_from, cond-false}
 use Rattle.graphs.specs.Rows.{bit, Pairs, pairs}
 use Rattle.graphs.proofs.Bits.{bit_none}
-use Rattle.tables.specs.Shape.{Inside, Blank}
 use Rattle.ledgers.specs.Calls.{Call, begin, Refusal, Answer, done, refused, buffer_of}
 use Rattle.ledgers.specs.Ledger.{Ledger, Fitting, begun, no_pairs, accepted, declined, verdict, made, by_verdict}
 use Rattle.ledgers.specs.Answered.{Answered, Judged}
+use Rattle.plans.specs.Bounds.{Low}
 use Rattle.plans.specs.Step.{fitting, shortened, view, Same, Started, Step, Fresh, turn, idle}
 use Rattle.plans.specs.declared.plan.Plan.{Plan}
 
@@ -46,6 +46,13 @@ pub done_step :
     (p q : Plan) (c : Call) → verdict (view p) c ≡ accepted → view q ≡ made (view p) c → Answered (view p) c done [] → Step p (turn c done []) q
 done_step p q c is seen answered = accepted_step p q c done [] is seen answered (λ e. absurd (false≢true e))
 
+-- the front of a list of numbers below n
+pub low_take : (m n : ℕ) (w : List ℕ) → 0 < n → Low n w → Low n (take m w)
+low_take m n w pos low u =
+    let P : ℕ → Type 0 = λ x. x < n in
+    ⊎_elim (λ lt. subst P (sym (get_or-take m w u 0 lt)) (low u))
+    (λ ge. subst P (sym (get_or_past (take m w) u 0 (let s = length-take m w in omega arith))) pos) (cases_lt u m)
+
 -- ---- no pair is struck
 
 abbrev pub blank_rows : List ℕ
@@ -56,12 +63,6 @@ zeros k u = ⊎_elim (λ lt. get_or-replicate k u 0 0 lt) (λ ge. let past : len
 
 pub blank_pairs : (u b : ℕ) → pairs blank_rows u b ≡ false
 blank_pairs u b = ap (λ x. bit x b) (zeros 24 u) ∙ bit_none b
-
-pub blank_inside : (n : ℕ) → Inside n blank_rows
-blank_inside n u = let z = zeros 24 u in let p = pow_pos n in omega (arith, z, p)
-
-pub blank_blank : (m : ℕ) → Blank m blank_rows
-blank_blank m u le = zeros 24 u
 
 view_begun : (q : Plan) (m n : ℕ) → Started m n blank_rows q → view q ≡ begun m n no_pairs
 view_begun q m n s =

@@ -24,16 +24,8 @@ reason_of NoRoom = R.NoRoom
 
 -- a search without a find tells its tries, and any other refusal its reason
 abbrev pub declining : Refusal → Answer
-declining Sizes = refused (rule R.Sizes)
-declining OutOfRange = refused (rule R.OutOfRange)
-declining Standing = refused (rule R.Standing)
-declining CardCount = refused (rule R.CardCount)
-declining NoFit = refused (rule R.NoFit)
-declining OtherCount = refused (rule R.OtherCount)
-declining NoLastAnswer = refused (rule R.NoLastAnswer)
-declining ShortBuffer = refused (rule R.ShortBuffer)
 declining (NoPlacement t) = none t
-declining NoRoom = refused (rule R.NoRoom)
+declining e = refused (rule (reason_of e))
 
 -- what each family of calls answers
 abbrev pub doing : Result (Unit {0}) Refusal → Answer

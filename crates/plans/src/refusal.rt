@@ -46,3 +46,15 @@ impl From<Refusal> for Reason {
         }
     }
 }
+
+#[cfg(test)]
+mod tests {
+    use super::*;
+
+    // The reasons of a plan without a fit and of a search that finds nothing.
+    #[test]
+    fn reasons(rt: HostRuntime) {
+        assert_eq!(rt; Reason::from(Refusal::NoFit), Reason::NoFit);
+        assert_eq!(rt; Reason::from(Refusal::NoPlacement(7)), Reason::NoPlacement);
+    }
+}

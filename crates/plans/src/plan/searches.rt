@@ -112,6 +112,7 @@ impl Plan {
     {
         self.in_range(unit, bay)?;
         let units = self.units;
+        // A copy, since the fitted rows are lent out until the guard is dropped.
         let struck = self.struck;
         let Some(fitted) = &mut self.fitted else {
             return Err(Refusal::NoFit);

@@ -3,7 +3,7 @@ use Rattle.tables.specs.Bytes.{Bytes}
 use Rattle.tables.specs.Shape.{Inside, Blank}
 use Rattle.tables.specs.Form.{view as form_in}
 use Rattle.saved.proofs.Plans.{plan_opened}
-use Rattle.plans.proofs.Opening.{open_step, open_inside, open_blank}
+use Rattle.plans.proofs.Opening.{open_inside, open_blank}
 use Rattle.plans.proofs.plan.Plan.open.Goals as goal
 
 pub front_rows-struck-requires : goal.front_rows-struck-requires
