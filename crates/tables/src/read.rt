@@ -123,8 +123,6 @@ pub fn read_table(input: &[u8], at: usize) -> Result<(Table, usize), TableFault>
             place: input.len(),
         });
     }
-    read_part(Part {
-        bytes: &input[at..],
-        at,
-    })
+    let bytes = &input[at..];
+    read_part(Part { bytes, at })
 }

@@ -1,5 +1,4 @@
-use Rattle.std.proofs.Common.{◌∙◌, Err, Ok, Result, MatchResult, IfOk}
-use Rattle.std.proofs.lemmas.Result.{err_from_is_err_and}
+use Rattle.std.proofs.Common.{Err, Ok, Result, IfOk}
 use Rattle.tables.proofs.Steps.{row_next}
 use Rattle.tables.proofs.read.read_row.Goals as goal
 
