@@ -36,9 +36,8 @@ fn read_joints(input: &[u8], at: usize) -> Result<(Table, usize), JobFault>
     ensures within { IfOk result (λ p. p.1 ≤ length input.now) }
 {
     let (table, next) = read_table(input, at)?;
-    JointTable::look_over(table.rows(), table.columns()).map_err(|_| JobFault::Joints(JointFault {
-        place: at,
-    }))?;
+    let ill = JobFault::Joints(JointFault { place: at });
+    JointTable::look_over(table.rows(), table.columns()).map_err(|_| ill)?;
     Ok((table, next))
 }
 
@@ -81,7 +80,7 @@ fn read_heights(input: &[u8], at: usize, bays: usize) -> Result<[u16; 64], JobFa
 fn sizes_match(struck: &Table, units: usize, bays: usize) -> bool
     ensures { result ≡ same_sizes units bays (view_table struck.now) }
 {
-    (struck.rows().len() == units) & (struck.columns() == bays)
+    struck.rows().len() == units && struck.columns() == bays
 }
 
 // The job that the whole input holds.
