@@ -1,6 +1,7 @@
 -- Heights as bytes, and heights and kinds in their arrays. Assumes nothing.
-use Rattle.std.proofs.Common.{◌≡◌, ℕ, zero, suc, ◌+◌, ◌*◌, ◌^◌, ◌<◌, ◌≤◌, ◌≢◌, List, [], ◌∷◌, ◌++◌, length, get_or, take, drop, set, replicate, sym, refl, ap, ◌∙◌, subst, ap₂, inl, inr, arith, length-append, length-drop, length-set, below_more}
-use Rattle.std.proofs.lemmas.List.{drop_at, ext_get_or, get_or_append_left, get_or-append_right, get_or-drop, get_or-set_other, get_or-set_same, get_or-take, length-take-le, take-append-drop, take_at}
+use Rattle.std.specs.Simd.{first_chunks}
+use Rattle.std.proofs.Common.{map, ◌≡◌, ℕ, zero, suc, ◌+◌, ◌*◌, ◌/◌, ◌^◌, ◌<◌, ◌≤◌, ◌≢◌, List, [], ◌∷◌, ◌++◌, length, get_or, take, drop, set, replicate, sym, refl, ap, ◌∙◌, subst, ap₂, inl, inr, arith, length-append, length-drop, length-set, below_more}
+use Rattle.std.proofs.lemmas.List.{map_more, take_all, take_more_set, drop_at, ext_get_or, get_or_append_left, get_or-append_right, get_or-drop, get_or-set_other, get_or-set_same, get_or-take, length-take-le, take-append-drop, take_at}
 use Rattle.std.proofs.lemmas.Bool.{cases_lt}
 use Rattle.tables.specs.Bytes.{Bytes, bytes_of, from_bytes}
 use Rattle.tables.proofs.Accepted.{length_bytes_of, bytes_of_value, value_of_bytes}
@@ -66,56 +67,45 @@ heights_words zero bs l B b = omega arith
 heights_words (suc n) bs l B zero = two_bytes bs (omega arith) B
 heights_words (suc n) bs l B (suc b) = heights_words n (drop 2 bs) (omega (arith, length-drop 2 bs)) (bytes_drop 2 bs B) b
 
--- ---- the loops that fill the arrays
+-- ---- the loop that reads them
 
-from_two : (bs : List ℕ) → from_bytes (take 2 bs) ≡ get_or bs 0 0 + 256 * get_or bs 1 0
+-- the number that two bytes write
+abbrev pub pair_word : List ℕ → ℕ
+pair_word pair = get_or pair 0 0 + 256 * get_or pair 1 0
+
+from_two : (bs : List ℕ) → pair_word (take 2 bs) ≡ from_bytes (take 2 bs)
 from_two [] = refl
 from_two (a ∷ []) = omega arith
 from_two (a ∷ b ∷ bs) = omega arith
 
-get_or_heights_of : (n : ℕ) (bs : List ℕ) (k : ℕ) → k < n → get_or (heights_of n bs) k 0 ≡ get_or bs (2 * k) 0 + 256 * get_or bs (2 * k + 1) 0
+pub pair_heights : (n : ℕ) (bs : List ℕ) → map pair_word (first_chunks 2 n bs) ≡ heights_of n bs
 unfolding heights_of
-get_or_heights_of zero bs k h = absurd (omega arith)
-get_or_heights_of (suc n) bs zero h = from_two bs
-get_or_heights_of (suc n) bs (suc k) h =
-    let low : 2 + 2 * k ≡ 2 * suc k = omega arith in
-    let high : 2 + (2 * k + 1) ≡ 2 * suc k + 1 = omega arith in
-    get_or_heights_of n (drop 2 bs) k (omega arith)
-    ∙ ap₂ (λ x y. x + 256 * y) (get_or-drop 2 bs (2 * k) 0 ∙ ap (λ i. get_or bs i 0) low) (get_or-drop 2 bs (2 * k + 1) 0 ∙ ap (λ i. get_or bs i 0) high)
+pair_heights zero bs = refl
+pair_heights (suc n) bs = ap₂ (λ x xs. x ∷ xs) (from_two bs) (pair_heights n (drop 2 bs))
 
--- the first k places of an array of 64 hold what f says
-pub record Filled (f : ℕ → ℕ) (k : ℕ) (array : List ℕ) : Type 0 where
+-- the first k places of an array of 64 hold the numbers of the first k pairs
+pub record Filled (pairs : List (List ℕ)) (k : ℕ) (array : List ℕ) : Type 0 where
   pub long : length array ≡ 64
-  pub held : (i : ℕ) → i < k → get_or array i 0 ≡ f i
+  pub front : take k array ≡ map pair_word (take k pairs)
 
-pub filled_none : (f : ℕ → ℕ) → Filled f 0 (replicate 64 0)
-filled_none f = record { long = refl; held = λ i h. absurd (omega arith) }
+pub filled_none : (pairs : List (List ℕ)) → Filled pairs 0 (replicate 64 0)
+filled_none pairs = record { long = refl; front = refl }
 
-pub filled_more : (f : ℕ → ℕ) (k x : ℕ) (array : List ℕ) → Filled f k array → k < 64 → x ≡ f k → Filled f (k + 1) (set array k x)
-filled_more f k x array g l e =
+pub filled_more : (pairs : List (List ℕ)) (k x : ℕ) (array : List ℕ) → Filled pairs k array → k < length pairs → k < 64 → x ≡ pair_word (get_or pairs k []) → Filled pairs (k + 1) (set array k x)
+filled_more pairs k x array g h l e =
     record {
       long = length-set array k x ∙ g.long;
-      held = below_more _ _
-          (λ i h. let ne : i ≢ k = omega arith in rw get_or-set_other (g.held i h))
-          (get_or-set_same array k x 0 (omega (arith, g.long)) ∙ e);
+      front = take_more_set array k x (omega (arith, g.long)) ∙ ap₂ (λ t y. t ++ y ∷ []) g.front e ∙ sym (map_more pair_word pairs k [] h);
     }
 
-pub filled_all : (f : ℕ → ℕ) (n k : ℕ) (array xs : List ℕ) → Filled f k array → n ≤ k → n ≤ 64 → length xs ≡ n → ((i : ℕ) → i < n → get_or xs i 0 ≡ f i) → take n array ≡ xs
-filled_all f n k array xs g l few long each =
-    let whole : length (take n array) ≡ n = length-take-le n array (omega (arith, g.long)) in
-    ext_get_or 0 (take n array) xs (whole ∙ sym long)
-    (λ i h. get_or-take n array i 0 (omega arith) ∙ g.held i (omega arith) ∙ sym (each i (omega arith)))
+-- as many pairs as bays stand in their bytes
+module _ (pairs : List (List ℕ)) (n : ℕ) (bs : List ℕ) (long : 2 * n ≤ length bs) (count : length pairs ≡ length (take (2 * n) bs) / 2) where
+  pub pairs_count : length pairs ≡ n
+  pairs_count = omega (arith, count, length-take-le (2 * n) bs long)
 
--- the kinds are the bytes of their part, and the heights what two bytes each write
-pub kinds_filled : (bs : List ℕ) (n k : ℕ) (array : List ℕ) → Filled (λ i. get_or bs i 0) k array → n ≤ k → n ≤ 64 → n ≤ length bs → take n array ≡ take n bs
-kinds_filled bs n k array g l few long =
-    filled_all (λ i. get_or bs i 0) n k array (take n bs) g l few (length-take-le n bs long) (λ i h. get_or-take n bs i 0 h)
-
-abbrev pub height_at : List ℕ → ℕ → ℕ
-height_at bs i = get_or bs (2 * i) 0 + 256 * get_or bs (2 * i + 1) 0
-
-pub heights_filled : (bs : List ℕ) (n k : ℕ) (array : List ℕ) → Filled (height_at bs) k array → n ≤ k → n ≤ 64 → take n array ≡ heights_of n (take (2 * n) bs)
-heights_filled bs n k array g l few =
-    filled_all (height_at bs) n k array (heights_of n (take (2 * n) bs)) g l few (length_heights_of n (take (2 * n) bs))
-    (λ i h. get_or_heights_of n (take (2 * n) bs) i h
-    ∙ ap₂ (λ x y. x + 256 * y) (get_or-take (2 * n) bs (2 * i) 0 (omega arith)) (get_or-take (2 * n) bs (2 * i + 1) 0 (omega arith)))
+  pub filled_all : (k : ℕ) (array : List ℕ) → pairs ≡ first_chunks 2 (length (take (2 * n) bs) / 2) (take (2 * n) bs) → Filled pairs k array → length pairs ≤ k → k ≤ length pairs
+      → take n array ≡ heights_of n (take (2 * n) bs)
+  filled_all k array e g l u =
+      let same : n ≡ k = omega (arith, pairs_count) in
+      let half : length (take (2 * n) bs) / 2 ≡ n = sym count ∙ pairs_count in
+      ap (λ m. take m array) same ∙ g.front ∙ ap (map pair_word) (take_all k pairs l ∙ e ∙ ap (λ m. first_chunks 2 m (take (2 * n) bs)) half) ∙ pair_heights n (take (2 * n) bs)

@@ -1,8 +1,9 @@
 -- What opens a job, as bytes. Assumes nothing.
-use Rattle.std.specs.Prelude.{ℕ, Bool, true, false, cond, ◌&&◌, ◌==◌, nat_le}
+use Rattle.std.specs.Prelude.{◌≡◌, ℕ, Bool, true, false, cond, Result, MatchResult, ◌&&◌, ◌==◌, nat_le}
 use Rattle.jobs.specs.declared.head.Mode.{Mode}
 use Rattle.jobs.specs.declared.head.Mode.TheVariants.{Open, Strict}
 use Rattle.jobs.specs.declared.head.Edition.{Edition}
+use Rattle.jobs.specs.declared.head.Unknown.{Unknown}
 use Rattle.jobs.specs.declared.head.Edition.TheVariants.{One, Two}
 
 -- whether units that are not joined must stand on bays that are not joined
@@ -31,3 +32,12 @@ known_edition number = nat_le 1 number && nat_le number 2
 
 abbrev pub edition_of : ℕ → Edition
 edition_of number = cond (number == 1) One Two
+
+-- what a byte stands for, or that it stands for nothing
+abbrev pub ModeOf : ℕ → Result Mode Unknown → Type 0
+ModeOf byte r = MatchResult r (λ mode. (known_mode byte ≡ true) × (mode ≡ mode_of byte)) (λ _. known_mode byte ≡ false)
+
+-- what a number stands for, or that it stands for nothing
+abbrev pub EditionOf : ℕ → Result Edition Unknown → Type 0
+EditionOf number r =
+    MatchResult r (λ edition. (known_edition number ≡ true) × (edition ≡ edition_of number)) (λ _. known_edition number ≡ false)

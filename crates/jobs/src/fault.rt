@@ -1,9 +1,8 @@
 ghost use Rattle.std.specs.Prelude.{◌≡◌};
-ghost use Rattle.refusals.specs.Numbers.{told};
 ghost use Rattle.jobs.specs.Told.{job_told};
 ghost use Rattle.jobs.specs.declared.fault.JobFault.TheVariants.{Table as InTable, Plan as InPlan};
 
-use refusals::{Reason, Told};
+use refusals::{Layer, Reason, Told};
 use saved::PlanFault;
 use sources::JointFault;
 use tables::TableFault;
@@ -43,28 +42,23 @@ impl From<PlanFault> for JobFault {
     }
 }
 
-// What a fault of the job itself tells.
-fn of_job(reason: Reason, place: usize) -> Told
-    ensures { result ≡ told reason 3 place }
-{
-    Told {
-        reason,
-        layer: 3,
-        place,
-    }
-}
+// What the fault of a table, a plan or a source told, or a fault of the job itself.
+impl From<JobFault> for Told {
+    ghost from_gives = { λ fault t. t ≡ job_told fault };
 
-impl JobFault {
-    pub fn told(&self) -> Told
-        ensures { result ≡ job_told self.now }
-    {
-        match self {
-            JobFault::Table(fault) => fault.told(),
-            JobFault::Plan(fault) => fault.told(),
-            JobFault::Joints(fault) => fault.told(),
-            JobFault::Ended(place) => of_job(Reason::Ended, *place),
-            JobFault::Unknown(place) => of_job(Reason::Unknown, *place),
-            JobFault::Unequal(place) => of_job(Reason::OtherCount, *place),
+    fn from(fault: JobFault) -> Told {
+        let (reason, place) = match fault {
+            JobFault::Table(fault) => return Told::from(fault),
+            JobFault::Plan(fault) => return Told::from(fault),
+            JobFault::Joints(fault) => return Told::from(fault),
+            JobFault::Ended(place) => (Reason::Ended, place),
+            JobFault::Unknown(place) => (Reason::Unknown, place),
+            JobFault::Unequal(place) => (Reason::OtherCount, place),
+        };
+        Told {
+            reason,
+            layer: Layer::Job,
+            place,
         }
     }
 }

@@ -8,6 +8,6 @@ mod job;
 mod read;
 
 pub use fault::JobFault;
-pub use head::{Edition, Mode};
+pub use head::{Edition, Mode, Unknown};
 pub use job::Job;
 pub use read::read_job;

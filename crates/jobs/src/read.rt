@@ -1,11 +1,9 @@
 // Reads a job, part by part, and tells the first thing that is wrong.
-ghost use Rattle.std.specs.Prelude.{◌≡◌, ℕ, ◌+◌, ◌*◌, ◌≤◌, length, drop, IfOk, if◌then◌else◌, Ok, Err, OnOk};
+ghost use Rattle.std.specs.Prelude.{◌≡◌, ℕ, ◌+◌, ◌*◌, ◌≤◌, length, drop, IfOk, OnOk};
 ghost use Rattle.tables.specs.Form.{view as view_table};
 ghost use Rattle.tables.specs.Parts.{Nothing, Exact};
 ghost use Rattle.tables.specs.Read.{seen as seen_table};
 ghost use Rattle.saved.specs.Plan.{plan_bytes};
-ghost use Rattle.jobs.specs.declared.fault.JobFault.TheVariants.{Unknown as UnknownAt};
-ghost use Rattle.jobs.specs.Head.{known_mode, mode_of, known_edition, edition_of};
 ghost use Rattle.jobs.specs.Form.{JobLawful, job_bytes, view};
 ghost use Rattle.jobs.specs.Read.{up_to, front, head_part, joints_part, kinds_part, heights_part, same_sizes, job_part, read_job, seen};
 
@@ -16,26 +14,6 @@ use saved::read_plan;
 use sources::{JointFault, JointTable};
 use tables::{Table, read_table};
 
-fn checked_mode(byte: u8) -> Result<Mode, JobFault>
-    ensures { result ≡ (if known_mode byte then Ok (mode_of byte) else Err (UnknownAt 0)) }
-{
-    match byte {
-        0 => Ok(Mode::Open),
-        1 => Ok(Mode::Strict),
-        _ => Err(JobFault::Unknown(0)),
-    }
-}
-
-fn checked_edition(number: u16) -> Result<Edition, JobFault>
-    ensures { result ≡ (if known_edition number then Ok (edition_of number) else Err (UnknownAt 1)) }
-{
-    match number {
-        1 => Ok(Edition::One),
-        2 => Ok(Edition::Two),
-        _ => Err(JobFault::Unknown(1)),
-    }
-}
-
 // The three bytes that open the job.
 fn read_head(input: &[u8]) -> Result<(Mode, Edition), JobFault>
     ensures { up_to 3 result ≡ head_part input.now 0 }
@@ -43,11 +21,12 @@ fn read_head(input: &[u8]) -> Result<(Mode, Edition), JobFault>
     let [mode, rest @ ..] = input else {
         return Err(JobFault::Ended(input.len()));
     };
-    let mode = checked_mode(*mode)?;
+    let mode = Mode::try_from(*mode).map_err(|_| JobFault::Unknown(0))?;
     let [low, high, ..] = rest else {
         return Err(JobFault::Ended(input.len()));
     };
-    let edition = checked_edition(u16::from_le_bytes([*low, *high]))?;
+    let number = u16::from_le_bytes([*low, *high]);
+    let edition = Edition::try_from(number).map_err(|_| JobFault::Unknown(1))?;
     Ok((mode, edition))
 }
 
@@ -57,10 +36,9 @@ fn read_joints(input: &[u8], at: usize) -> Result<(Table, usize), JobFault>
     ensures within { IfOk result (λ p. p.1 ≤ length input.now) }
 {
     let (table, next) = read_table(input, at)?;
-    match JointTable::look_over(table.rows(), table.columns()) {
-        Ok(()) => Ok((table, next)),
-        Err(_) => Err(JobFault::Joints(JointFault { place: at })),
-    }
+    let ill = JobFault::Joints(JointFault { place: at });
+    JointTable::look_over(table.rows(), table.columns()).map_err(|_| ill)?;
+    Ok((table, next))
 }
 
 // A byte a unit from the place `at` on.
@@ -75,9 +53,7 @@ fn read_kinds(input: &[u8], at: usize, units: usize) -> Result<[u8; 64], JobFaul
         return Err(JobFault::Ended(input.len()));
     }
     let mut kinds = [0; 64];
-    for k in 0..units {
-        kinds[k] = part[k];
-    }
+    kinds[..units].copy_from_slice(&part[..units]);
     Ok(kinds)
 }
 
@@ -92,9 +68,10 @@ fn read_heights(input: &[u8], at: usize, bays: usize) -> Result<[u16; 64], JobFa
     if part.len() < 2 * bays {
         return Err(JobFault::Ended(input.len()));
     }
+    let (pairs, _) = part[..2 * bays].as_chunks::<2>();
     let mut heights = [0; 64];
-    for k in 0..bays {
-        heights[k] = u16::from_le_bytes([part[2 * k], part[2 * k + 1]]);
+    for (k, [low, high]) in pairs.iter().enumerate() {
+        heights[k] = u16::from_le_bytes([*low, *high]);
     }
     Ok(heights)
 }
@@ -103,7 +80,7 @@ fn read_heights(input: &[u8], at: usize, bays: usize) -> Result<[u16; 64], JobFa
 fn sizes_match(struck: &Table, units: usize, bays: usize) -> bool
     ensures { result ≡ same_sizes units bays (view_table struck.now) }
 {
-    (struck.rows().len() == units) & (struck.columns() == bays)
+    struck.rows().len() == units && struck.columns() == bays
 }
 
 // The job that the whole input holds.

@@ -1,7 +1,9 @@
--- The number of each reason. Assumes nothing.
+-- The number of each reason and of each layer. Assumes nothing.
 use Rattle.std.specs.Prelude.{ℕ}
 use Rattle.refusals.specs.declared.Reason.{Reason}
 use Rattle.refusals.specs.declared.Reason.TheVariants as R
+use Rattle.refusals.specs.declared.Layer.{Layer}
+use Rattle.refusals.specs.declared.Layer.TheVariants as L
 use Rattle.refusals.specs.declared.Told.{Told}
 
 abbrev pub number_of : Reason → ℕ
@@ -24,6 +26,11 @@ number_of R.RowBit = 16
 number_of R.BytesLeft = 17
 number_of R.NoRoom = 18
 
+abbrev pub layer_of : Layer → ℕ
+layer_of L.Table = 1
+layer_of L.Plan = 2
+layer_of L.Job = 3
+
 -- a refusal by its reason, its layer and its place
-abbrev pub told : Reason → ℕ → ℕ → Told
+abbrev pub told : Reason → Layer → ℕ → Told
 told reason layer place = record { reason = reason; layer = layer; place = place }

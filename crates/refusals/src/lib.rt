@@ -1,8 +1,8 @@
-// Why a call declines: one enum for all reasons, and their numbers by one definition.
+// Why a call declines: one enum for all reasons, one for the layers that find them, and their numbers.
 #![tactic(auto)]
 
 ghost use Rattle.std.specs.Prelude.{◌≡◌};
-ghost use Rattle.refusals.specs.Numbers.{number_of};
+ghost use Rattle.refusals.specs.Numbers.{number_of, layer_of};
 
 #[derive(Clone, Copy, PartialEq, Eq, Debug)]
 pub enum Reason {
@@ -44,11 +44,12 @@ pub enum Reason {
     NoRoom,
 }
 
-impl Reason {
-    pub fn number(self) -> u8
-        ensures { result ≡ number_of self }
-    {
-        match self {
+// The number of a reason, as it is printed.
+impl From<Reason> for u8 {
+    ghost from_gives = { λ reason number. number ≡ number_of reason };
+
+    fn from(reason: Reason) -> u8 {
+        match reason {
             Reason::Sizes => 1,
             Reason::OutOfRange => 2,
             Reason::Standing => 3,
@@ -71,11 +72,33 @@ impl Reason {
     }
 }
 
-// What a refusal of reading or of a look-over tells: the reason, the layer that found it (1 a table, 2 a look-over or a plan,
-// 3 a job) and the offset of the ill part from the first byte of the whole input.
+// The layer that found what is wrong.
+#[derive(Clone, Copy, PartialEq, Eq, Debug)]
+pub enum Layer {
+    Table,
+    // A look-over or a plan.
+    Plan,
+    Job,
+}
+
+// The number of a layer, as it is printed.
+impl From<Layer> for u8 {
+    ghost from_gives = { λ layer number. number ≡ layer_of layer };
+
+    fn from(layer: Layer) -> u8 {
+        match layer {
+            Layer::Table => 1,
+            Layer::Plan => 2,
+            Layer::Job => 3,
+        }
+    }
+}
+
+// What a refusal of reading or of a look-over tells: the reason, the layer that found it and the offset of the ill part from
+// the first byte of the whole input.
 #[derive(Clone, Copy, PartialEq, Eq, Debug)]
 pub struct Told {
     pub reason: Reason,
-    pub layer: u8,
+    pub layer: Layer,
     pub place: usize,
 }

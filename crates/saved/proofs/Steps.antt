@@ -36,22 +36,23 @@ module _ (input : List ℕ) where
         ap taken (sym (ap (λ r. and_then {Y = List ℕ × ℕ} r (λ p. cond (eqb (get_or p.0 0 0) 2) (Ok p) (Err (P.Form at))))
         (cond-true (ltb (length (drop at input)) 1) _ _ (lt-ltb (length (drop at input)) 1 (omega (arith, length-drop at input))))))
 
-    module _ (lt : at < length input) where
+    -- what was found at the place
+    module _ (form : ℕ) (found : (at < length input) × ((d : ℕ) → form ≡ get_or input at d)) where
       byte_is : get_or (take 1 (drop at input)) 0 0 ≡ get_or input at 0
       byte_is = get_or-take 1 (drop at input) 0 0 (omega arith) ∙ get_or-drop at input 0 0 ∙ ap (λ n. get_or input n 0) (let e : at + 0 ≡ at = omega arith in e)
 
       form_is : form_part input at ≡ cond (eqb (get_or input at 0) 2) (Ok (take 1 (drop at input), at + 1)) (Err (P.Form at))
       form_is =
           ap (λ r. and_then {Y = List ℕ × ℕ} r (λ p. cond (eqb (get_or p.0 0 0) 2) (Ok p) (Err (P.Form at))))
-          (cond-false (ltb (length (drop at input)) 1) _ _ (le-ltb (length (drop at input)) 1 (omega (arith, length-drop at input))))
+          (cond-false (ltb (length (drop at input)) 1) _ _ (le-ltb (length (drop at input)) 1 (omega (arith, found.0, length-drop at input))))
           ∙ ap (λ b. cond (eqb b 2) (Ok (take 1 (drop at input), at + 1)) (Err (P.Form at))) byte_is
 
-      pub plan_form : (get_or input at 0 ≡ 2 → ⊥) → Err (P.Form at) ≡ read_plan input at
-      plan_form ne = ap taken (sym (form_is ∙ cond-false (eqb (get_or input at 0) 2) _ _ (ne_eqb (get_or input at 0) 2 ne)))
+      pub plan_form : (form ≡ 2 → ⊥) → Err (P.Form at) ≡ read_plan input at
+      plan_form ne = ap taken (sym (form_is ∙ cond-false (eqb (get_or input at 0) 2) _ _ (ne_eqb (get_or input at 0) 2 (λ e. ne (found.1 0 ∙ e)))))
 
-      module _ (two : get_or input at 0 ≡ 2) where
+      module _ (two : form ≡ 2) where
         form_here : form_part input at ≡ Ok (take 1 (drop at input), at + 1)
-        form_here = form_is ∙ cond-true (eqb (get_or input at 0) 2) _ _ (eq-eqb (get_or input at 0) 2 two)
+        form_here = form_is ∙ cond-true (eqb (get_or input at 0) 2) _ _ (eq-eqb (get_or input at 0) 2 (sym (found.1 0) ∙ two))
 
         abbrev struck : Result (Form × ℕ) TableFault → Result (Form × ℕ) PlanFault
         struck r = and_then {Y = Form × ℕ} (elim r [ Ok p ↦ Ok p | Err e ↦ Err (P.Table e) ]) (λ p. cond (sized p.0) (Ok p) (Err (P.Sizes (at + 1))))

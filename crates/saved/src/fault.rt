@@ -1,9 +1,8 @@
 ghost use Rattle.std.specs.Prelude.{◌≡◌};
-ghost use Rattle.refusals.specs.Numbers.{told};
 ghost use Rattle.saved.specs.Told.{plan_told};
 ghost use Rattle.saved.specs.declared.fault.PlanFault.TheVariants.{Table as InPlan};
 
-use refusals::{Reason, Told};
+use refusals::{Layer, Reason, Told};
 use tables::TableFault;
 
 // Why bytes are no saved plan. The number is the offset of the ill part from the first byte of the whole input.
@@ -30,27 +29,22 @@ impl From<TableFault> for PlanFault {
     }
 }
 
-// What a fault of the plan itself tells.
-fn of_plan(reason: Reason, place: usize) -> Told
-    ensures { result ≡ told reason 2 place }
-{
-    Told {
-        reason,
-        layer: 2,
-        place,
-    }
-}
+// What a table's fault told, or a fault of the plan itself.
+impl From<PlanFault> for Told {
+    ghost from_gives = { λ fault t. t ≡ plan_told fault };
 
-impl PlanFault {
-    pub fn told(&self) -> Told
-        ensures { result ≡ plan_told self.now }
-    {
-        match self {
-            PlanFault::Table(fault) => fault.told(),
-            PlanFault::Ended(place) => of_plan(Reason::Ended, *place),
-            PlanFault::Form(place) => of_plan(Reason::Unknown, *place),
-            PlanFault::Sizes(place) => of_plan(Reason::Sizes, *place),
-            PlanFault::Left(place) => of_plan(Reason::BytesLeft, *place),
+    fn from(fault: PlanFault) -> Told {
+        let (reason, place) = match fault {
+            PlanFault::Table(fault) => return Told::from(fault),
+            PlanFault::Ended(place) => (Reason::Ended, place),
+            PlanFault::Form(place) => (Reason::Unknown, place),
+            PlanFault::Sizes(place) => (Reason::Sizes, place),
+            PlanFault::Left(place) => (Reason::BytesLeft, place),
+        };
+        Told {
+            reason,
+            layer: Layer::Plan,
+            place,
         }
     }
 }

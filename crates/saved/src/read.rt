@@ -11,9 +11,7 @@ use tables::{Table, read_table};
 fn sizes_fit(table: &Table) -> bool
     ensures { result ≡ sized (view table.now) }
 {
-    let units = table.rows().len();
-    let bays = table.columns();
-    ((1 <= units) & (units <= 24)) & ((1 <= bays) & (bays <= 64))
+    (1..=24).contains(&table.rows().len()) && (1..=64).contains(&table.columns())
 }
 
 // The struck pairs of the plan that is saved from the place `at` to the end of the input.

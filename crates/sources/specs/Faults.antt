@@ -1,6 +1,7 @@
 -- What a look-over of a source answers, and what its fault tells. Assumes nothing.
 use Rattle.std.specs.Prelude.{◌≡◌, ℕ, Result, MatchResult}
 use Rattle.refusals.specs.declared.Reason.TheVariants.{IllJoints}
+use Rattle.refusals.specs.declared.Layer.TheVariants.{Plan}
 use Rattle.refusals.specs.declared.Told.{Told}
 use Rattle.refusals.specs.Numbers.{told}
 use Rattle.sources.specs.declared.fault.JointFault.{JointFault}
@@ -11,7 +12,7 @@ fault_at p = record { place = p }
 
 -- ill joints, found by the second layer, at the fault's place
 abbrev pub joint_told : JointFault → Told
-joint_told fault = told IllJoints 2 fault.place
+joint_told fault = told IllJoints Plan fault.place
 
 -- the answer of a direct look-over for the law P: accepted only where P holds, and declined only where it does not, with
 -- place 0

@@ -2,7 +2,7 @@
 ghost use Rattle.std.specs.Prelude.{◌≡◌};
 ghost use Rattle.sources.specs.Faults.{joint_told};
 
-use refusals::{Reason, Told};
+use refusals::{Layer, Reason, Told};
 
 // For now the place alone; the rule that is broken and its nodes can stand beside it.
 #[derive(Clone, Copy, PartialEq, Eq, Debug)]
@@ -11,14 +11,14 @@ pub struct JointFault {
     pub place: usize,
 }
 
-impl JointFault {
-    pub fn told(&self) -> Told
-        ensures { result ≡ joint_told self.now }
-    {
+impl From<JointFault> for Told {
+    ghost from_gives = { λ fault t. t ≡ joint_told fault };
+
+    fn from(fault: JointFault) -> Told {
         Told {
             reason: Reason::IllJoints,
-            layer: 2,
-            place: self.place,
+            layer: Layer::Plan,
+            place: fault.place,
         }
     }
 }

@@ -1,29 +1,40 @@
 -- Writing a table, step by step: a word, the rows, the map, the head. Assumes nothing.
-use Rattle.std.proofs.Common.{◌≡◌, ℕ, suc, ◌+◌, ◌-◌, ◌*◌, ◌/◌, ◌%◌, ◌^◌, ◌<◌, ◌≤◌, List, [], ◌∷◌, ◌++◌, length, get_or, drop, set, sym, refl, ap, ◌∙◌, pow-suc, arith, length-append, eq-eqb, ne_eqb}
-use Rattle.std.proofs.lemmas.List.{drop_more, drop_all}
+use Rattle.std.specs.Int.{bytes_low_first, byte_at, to_le_bytes, w64}
+use borrow.Rule.Slice.PartMut.{put_mid}
+use Rattle.std.proofs.Common.{length-set, ap₂, zero, Bool, true, false, cond, not, eqb, count_by, take, ◌≡◌, ℕ, suc, ◌+◌, ◌*◌, ◌/◌, ◌%◌, ◌^◌, ◌<◌, ◌≤◌, List, [], ◌∷◌, ◌++◌, length, get_or, drop, set, sym, refl, ap, ◌∙◌, pow-suc, arith, length-append, eq-eqb, ne_eqb}
+use Rattle.std.proofs.Math.Nat.{div-div-eq-div-mul}
+use Rattle.std.proofs.lemmas.List.Sums.{sum_by-cons}
+use Rattle.std.proofs.lemmas.List.{drop-drop, drop_more, drop_all, length-take-le, take_more}
 use Rattle.text.specs.Lay.{lay}
-use Rattle.text.proofs.Lay.{lay_append, lay_cons, lay_nil, length_lay}
+use Rattle.text.proofs.Lay.{lay_append, lay_is, lay_nil, length_lay}
 use Rattle.tables.specs.Bytes.{bytes_of}
 use Rattle.tables.specs.Written.{map_of, rows_bytes}
 use Rattle.tables.proofs.Accepted.{length_bytes_of}
 
 -- ---- one word
 
-bytes_suc : (n x : ℕ) → bytes_of (suc n) x ≡ x % 256 ∷ bytes_of n (x / 256)
+low_first : (i k n : ℕ) → bytes_low_first i k n ≡ bytes_of k (n / 256 ^ i)
 unfolding bytes_of
-bytes_suc n x = refl
+low_first i zero n = refl
+low_first i (suc k) n = rw (low_first (suc i) k n, byte_is i, up) refl
+  where
+    up : n / 256 ^ suc i ≡ n / 256 ^ i / 256
+    up = ap (λ d. n / d) (pow-suc 256 i) ∙ sym (div-div-eq-div-mul n (256 ^ i) 256)
 
-pub byte_more : (out : List ℕ) (at i left : ℕ) → i < 8 → lay (set out (at + i) (left % 256)) (at + (i + 1)) (bytes_of (8 - (i + 1)) (left / 256)) ≡ lay out (at + i) (bytes_of (8 - i) left)
-byte_more out at i left h =
-    let n : 8 - i ≡ suc (8 - (i + 1)) = omega arith in
-    let a : at + i + 1 ≡ at + (i + 1) = omega arith in
-    rw (n, bytes_suc (8 - (i + 1)) left, lay_cons out (at + i) (left % 256) (bytes_of (8 - (i + 1)) (left / 256)), a)
+    byte_is : (i : ℕ) → byte_at i n ≡ n / 256 ^ i % 256
+    byte_is zero = omega arith
+    byte_is (suc i) = refl
 
-pub byte_done : (out : List ℕ) (at i left : ℕ) → 8 ≤ i → lay out at (bytes_of (8 - i) left) ≡ out
-unfolding bytes_of
-byte_done out at i left h =
-    let n : 8 - i ≡ 0 = omega arith in
-    rw (n, lay_nil out at)
+-- the library's bytes of a word are those of the form
+pub word_bytes : (x : ℕ) → to_le_bytes w64 x ≡ bytes_of 8 x
+word_bytes x = let whole : x / 256 ^ 0 ≡ x = omega arith in low_first 0 8 x ∙ ap (bytes_of 8) whole
+
+-- eight bytes written to a part of the buffer
+pub word_laid : (out : List ℕ) (at n x : ℕ) (bytes : List ℕ) → at + 8 ≤ length out → n ≡ 8 → bytes ≡ to_le_bytes w64 x → put_mid at n out bytes ≡ lay out at (bytes_of 8 x)
+word_laid out at n x bytes h eight e =
+    let l : length (bytes_of 8 x) ≡ 8 = length_bytes_of 8 x in
+    ap₂ (λ k bs. put_mid at k out bs) (eight ∙ sym l) (e ∙ word_bytes x)
+    ∙ ap (λ t. take at out ++ (bytes_of 8 x ++ t)) (drop-drop (length (bytes_of 8 x)) at out) ∙ sym (lay_is out at (bytes_of 8 x) (omega arith))
 
 -- ---- the rows
 
@@ -35,14 +46,6 @@ module _ (rows : List ℕ) (k : ℕ) (h : k < length rows) where
   pub rows_some : (get_or rows k 0 ≡ 0 → ⊥) → rows_bytes (drop k rows) ≡ bytes_of 8 (get_or rows k 0) ++ rows_bytes (drop (k + 1) rows)
   unfolding rows_bytes
   rows_some nz = rw (drop_more rows k 0 h, ne_eqb (get_or rows k 0) 0 nz)
-
-  pub map_zero : get_or rows k 0 ≡ 0 → map_of (drop k rows) ≡ 2 * map_of (drop (k + 1) rows)
-  unfolding map_of
-  map_zero z = rw (drop_more rows k 0 h, eq-eqb (get_or rows k 0) 0 z) (omega arith)
-
-  pub map_some : (get_or rows k 0 ≡ 0 → ⊥) → map_of (drop k rows) ≡ 2 * map_of (drop (k + 1) rows) + 1
-  unfolding map_of
-  map_some nz = rw (drop_more rows k 0 h, ne_eqb (get_or rows k 0) 0 nz) (omega arith)
 
 pub rows_end : (rows : List ℕ) (k : ℕ) → length rows ≤ k → rows_bytes (drop k rows) ≡ []
 unfolding rows_bytes
@@ -86,51 +89,54 @@ module _ {out₀ : List ℕ} {at : ℕ} {rows : List ℕ} {k next : ℕ} {out : 
 
 -- ---- the length
 
--- the bytes counted so far and those of the rows left are all
-abbrev pub Counting : (rows : List ℕ) (k len : ℕ) → Type 0
-Counting rows k len = (len + length (rows_bytes (drop k rows)) ≡ length (rows_bytes rows)) × (len ≤ 8 * k)
+pub rows_count : (rows : List ℕ) → length (rows_bytes rows) ≡ 8 * count_by (λ row. not (eqb row 0)) rows
+unfolding rows_bytes
+rows_count [] = refl
+rows_count (r ∷ rs) = one (eqb r 0) (rows_count rs) ∙ ap (λ n. 8 * n) (sym (sum_by-cons (λ row. cond (not (eqb row 0)) 1 0) r rs))
+  where
+    one : (t : Bool) → length (rows_bytes rs) ≡ 8 * count_by (λ row. not (eqb row 0)) rs
+        → length (cond t (rows_bytes rs) (bytes_of 8 r ++ rows_bytes rs)) ≡ 8 * (cond (not t) 1 0 + count_by (λ row. not (eqb row 0)) rs)
+    one true h = omega (arith, h)
+    one false h = omega (arith, h, length-append (bytes_of 8 r) (rows_bytes rs), length_bytes_of 8 r)
 
-module _ (rows : List ℕ) (k len : ℕ) (g : Counting rows k len) where
-  pub more_zero : k < length rows → get_or rows k 0 ≡ 0 → Counting rows (k + 1) len
-  more_zero h z = (omega (arith, g.0, ap length (rows_zero rows k h z)), omega (arith, g.1))
+-- ---- the map
 
-  pub more_some : k < length rows → (get_or rows k 0 ≡ 0 → ⊥) → Counting rows (k + 1) (len + 8)
-  more_some h nz = (omega (arith, g.0, length_some rows k h nz), omega (arith, g.1))
-
-  pub more_done : length rows ≤ k → len ≡ length (rows_bytes rows)
-  more_done h = omega (arith, g.0, ap length (rows_end rows k h))
-
--- ---- the map, from the last row down
-
--- the map of the rows from k on, which fits in as many bits
-abbrev pub Mapping : (rows : List ℕ) (k map : ℕ) → Type 0
-Mapping rows k map = (map ≡ map_of (drop k rows)) × (map < 2 ^ (length rows - k))
-
-module _ (rows : List ℕ) (map k : ℕ) (some : 0 < k) (top : k ≤ length rows) (g : Mapping rows k map) where
-  map_down : (d : ℕ) → d < 2 → map_of (drop (k - 1) rows) ≡ 2 * map_of (drop (k - 1 + 1) rows) + d → Mapping rows (k - 1) (map * 2 + d)
-  map_down d small m =
-      let up : k - 1 + 1 ≡ k = omega arith in
-      let n : length rows - (k - 1) ≡ suc (length rows - k) = omega arith in
-      let m' : map_of (drop (k - 1) rows) ≡ 2 * map_of (drop k rows) + d = rw up at m in
-      (omega (arith, m', g.0), rw (n, pow-suc 2 (length rows - k)) (omega (arith, g.1)))
-
-  pub map_down_some : (get_or rows (k - 1) 0 ≡ 0 → ⊥) → Mapping rows (k - 1) (map * 2 + 1)
-  map_down_some nz = map_down 1 (omega arith) (map_some rows (k - 1) (omega arith) nz)
-
-  pub map_down_zero : get_or rows (k - 1) 0 ≡ 0 → Mapping rows (k - 1) (map * 2)
-  map_down_zero z =
-      let none : map * 2 + 0 ≡ map * 2 = omega arith in
-      let m = map_down 0 (omega arith) (map_zero rows (k - 1) (omega arith) z ∙ omega arith) in
-      rw none at m
-
-pub map_end : (rows : List ℕ) → Mapping rows (length rows) 0
+map_push_zero : (rows : List ℕ) → map_of (rows ++ 0 ∷ []) ≡ map_of rows
 unfolding map_of
-map_end rows =
-    let none : length rows - length rows ≡ 0 = omega arith in
-    (rw (drop_all (length rows) rows (omega arith)), rw none (omega arith))
+map_push_zero [] = refl
+map_push_zero (r ∷ rs) = ap (λ m. cond (eqb r 0) 0 1 + 2 * m) (map_push_zero rs)
+
+map_push_some : (rows : List ℕ) (row : ℕ) → (row ≡ 0 → ⊥) → map_of (rows ++ row ∷ []) ≡ map_of rows + 2 ^ length rows
+unfolding map_of
+map_push_some [] row nz = rw (ne_eqb row 0 nz) refl
+map_push_some (r ∷ rs) row nz = rw (pow-suc 2 (length rs)) (omega (arith, map_push_some rs row nz))
+
+-- the map of the first k rows, which fits in as many bits
+abbrev pub Mapping : (rows : List ℕ) (k map : ℕ) → Type 0
+Mapping rows k map = (map ≡ map_of (take k rows)) × (map < 2 ^ k)
+
+pub map_none : (rows : List ℕ) → Mapping rows 0 0
+unfolding map_of
+map_none rows = (refl, omega arith)
+
+module _ (rows : List ℕ) (k map : ℕ) (h : k < length rows) (g : Mapping rows k map) where
+  twice : 2 ^ (k + 1) ≡ 2 ^ k * 2
+  twice = let up : k + 1 ≡ suc k = omega arith in ap (λ n. 2 ^ n) up ∙ pow-suc 2 k
+
+  pub map_zero : get_or rows k 0 ≡ 0 → Mapping rows (k + 1) map
+  map_zero z = (g.0 ∙ sym (rw (take_more rows k 0 h, z) (map_push_zero (take k rows))), omega (arith, g.1, twice))
+
+  pub map_some : (get_or rows k 0 ≡ 0 → ⊥) → Mapping rows (k + 1) (map + 2 ^ k)
+  map_some nz =
+      let l : length (take k rows) ≡ k = length-take-le k rows (omega arith) in
+      let m = map_push_some (take k rows) (get_or rows k 0) nz in
+      (omega (arith, ap map_of (take_more rows k 0 h), m, ap (λ n. 2 ^ n) l, g.0), omega (arith, g.1, twice))
 
 -- ---- the head of a table
 
-pub head_lay : (out : List ℕ) (a b : ℕ) (body : List ℕ) → lay (set (set out 0 a) 1 b) 2 body ≡ lay out 0 (a ∷ (b ∷ body))
+-- the two counts and the map, as they are written
+pub head_laid : (out : List ℕ) (a b x : ℕ) (bytes : List ℕ) → 10 ≤ length out → bytes ≡ to_le_bytes w64 x
+    → put_mid 2 8 (set (set out 0 a) 1 b) bytes ≡ lay out 0 (a ∷ (b ∷ bytes_of 8 x))
 unfolding lay
-head_lay out a b body = refl
+head_laid out a b x bytes h e =
+    word_laid (set (set out 0 a) 1 b) 2 8 x bytes (omega (arith, length-set (set out 0 a) 1 b, length-set out 0 a, h)) refl e

@@ -1,5 +1,5 @@
 -- The saved form of a table in a buffer. Assumes nothing.
-use Rattle.std.proofs.Common.{◌≡◌, ℕ, ◌+◌, ◌<◌, ◌≤◌, true, false, ltb, List, [], ◌++◌, length, take, drop, set, IfOk, Ok, Err, Result, sym, refl, ap, ◌∙◌, inl, inr, append-nil, arith, le-ltb, lt-ltb}
+use Rattle.std.proofs.Common.{◌≡◌, ℕ, ◌+◌, ◌<◌, ◌≤◌, true, false, ltb, List, [], ◌∷◌, ◌++◌, length, take, drop, IfOk, Ok, Err, Result, sym, refl, ap, ◌∙◌, inl, inr, append-nil, arith, le-ltb, lt-ltb}
 use Rattle.std.proofs.lemmas.List.{take_at}
 use Rattle.std.proofs.lemmas.Bool.{cases_lt}
 use Rattle.text.specs.Lay.{lay}
@@ -13,7 +13,6 @@ use Rattle.tables.specs.Saved.{Saved}
 use Rattle.tables.specs.Written.{map_of, rows_bytes, table_bytes}
 use Rattle.tables.proofs.Accepted.{length_bytes_of}
 use Rattle.tables.proofs.Back.{length_form}
-use Rattle.tables.proofs.Putting.{head_lay}
 
 pub saved_short : (f : Form) (out : List ℕ) → length out < 10 + length (rows_bytes f.rows) → Saved (table_bytes f) out out (Err Short)
 saved_short f out h =
@@ -21,15 +20,16 @@ saved_short f out h =
     record { answer = rw s; buffer = rw s }
 
 pub saved_whole : (f : Form) (out out₁ out₂ : List ℕ) (r : ℕ) → 10 + length (rows_bytes f.rows) ≤ length out
-    → out₁ ≡ lay (set (set out 0 (length f.rows)) 1 f.columns) 2 (bytes_of 8 (map_of f.rows)) → out₂ ≡ lay out₁ 10 (rows_bytes f.rows) → r ≡ 10 + length (rows_bytes f.rows)
+    → out₁ ≡ lay out 0 (length f.rows ∷ (f.columns ∷ bytes_of 8 (map_of f.rows))) → out₂ ≡ lay out₁ 10 (rows_bytes f.rows) → r ≡ 10 + length (rows_bytes f.rows)
     → Saved (table_bytes f) out out₂ (Ok r)
 saved_whole f out out₁ out₂ r h e₁ e₂ n =
+    let head : List ℕ = length f.rows ∷ (f.columns ∷ bytes_of 8 (map_of f.rows)) in
     let s : ltb (length out) (length (table_bytes f)) ≡ false = le-ltb (length out) (length (table_bytes f)) (omega (arith, length_form f)) in
-    let l : 2 + length (bytes_of 8 (map_of f.rows)) ≡ 10 = omega (arith, length_bytes_of 8 (map_of f.rows)) in
-    let a = lay_append (set (set out 0 (length f.rows)) 1 f.columns) 2 (bytes_of 8 (map_of f.rows)) (rows_bytes f.rows) in
+    let l : 0 + length head ≡ 10 = omega (arith, length_bytes_of 8 (map_of f.rows)) in
+    let a = lay_append out 0 head (rows_bytes f.rows) in
     record {
       answer = rw s (ap Ok (n ∙ sym (length_form f)));
-      buffer = rw s (e₂ ∙ ap (λ o. lay o 10 (rows_bytes f.rows)) e₁ ∙ sym (rw l at a) ∙ head_lay out (length f.rows) f.columns (bytes_of 8 (map_of f.rows) ++ rows_bytes f.rows));
+      buffer = rw s (e₂ ∙ ap (λ o. lay o 10 (rows_bytes f.rows)) e₁ ∙ sym (rw l at a));
     }
 
 saved_ok : (form out out' : List ℕ) (n : ℕ) → Saved form out out' (Ok n) → (length form ≤ length out) × (n ≡ length form) × (out' ≡ lay out 0 form)

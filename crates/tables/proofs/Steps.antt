@@ -1,14 +1,17 @@
 -- Reading a table, step by step: the loop over the rows, the map, the counts. Assumes nothing.
-use Rattle.std.proofs.Common.{◌≡◌, ℕ, zero, suc, ◌+◌, ◌-◌, ◌/◌, ◌%◌, ◌^◌, ◌<◌, ◌≤◌, ◌≢◌, List, [], ◌∷◌, ◌++◌, length, get_or, take, drop, set, replicate, None, Ok, Err, Result, sym, refl, ap, ◌∙◌, subst, ⊎_elim, append_assoc, append-nil, arith, length-drop, length-set, le-ltb, lt-ltb}
+use Rattle.std.proofs.Common.{◌≡◌, ℕ, zero, suc, ◌+◌, ◌-◌, ◌/◌, ◌%◌, ◌^◌, ◌<◌, ◌≤◌, ◌≢◌, List, [], ◌∷◌, ◌++◌, length, get_or, take, drop, set, replicate, Bool, true, false, cond, ltb, Some, None, Ok, Err, Result, sym, refl, ap, ◌∙◌, subst, ⊎_elim, inl, inr, append_assoc, append-nil, arith, length-drop, length-set, lt-ltb}
 use Rattle.std.proofs.lemmas.Nat.{pow_pos}
-use Rattle.std.proofs.lemmas.List.{get_or-set_same, get_or-set_other, set_past, take_more, take_more_set}
+use Rattle.std.proofs.lemmas.List.{drop-drop, get_or-append_right, get_or-drop, get_or_append_left, length-replicate, take_all, take_at, get_or-set_same, get_or-set_other, set_past, take_more, take_more_set}
 use Rattle.std.proofs.lemmas.Result.{IfOk-at_ok}
 use Rattle.std.proofs.lemmas.Bool.{cases_eq, cases_lt}
 use Rattle.tables.specs.declared.fault.TableFault.{TableFault}
-use Rattle.tables.specs.declared.fault.TableCause.TheVariants.{Ended}
+use Rattle.tables.specs.declared.fault.TableCause.TheVariants.{Ended, MapBit}
 use Rattle.tables.specs.Bytes.{from_bytes}
+use Rattle.tables.specs.declared.part.Part.{Part}
+use Rattle.tables.specs.Taking.{end_of, ended, next_byte, next_word, Past}
 use Rattle.tables.specs.Shape.{Inside, Blank}
-use Rattle.tables.specs.Read.{read_rows, behind, read_row, read_map, checked_map, lowest_past, table_from, checked_count, ill, held}
+use Rattle.tables.specs.Parts.{and_then}
+use Rattle.tables.specs.Read.{read_rows, behind, checked_row, read_row, read_count, read_map, checked_map, lowest_past, table_from, checked_count, ill, held}
 use Rattle.tables.proofs.Accepted.{Row, row_accepted}
 
 -- what was read with rows in front
@@ -58,6 +61,10 @@ module _ (map columns end at : ℕ) (bs : List ℕ) where
       let n : count - k ≡ suc (count - (k + 1)) = omega arith in
       rw n (refused (count - (k + 1)) e (take k bits) one o)
 
+-- what is left after some bytes ends where it ended
+pub past_ends : (n : ℕ) (part part' : Part) → Past n part part' → end_of part' ≡ end_of part
+past_ends n part part' p = omega (arith, p.place, ap length p.bytes, length-drop n part.bytes.now, p.enough)
+
 pub resumed_none : (r : Result (List ℕ × ℕ) TableFault) → resumed [] r ≡ r
 resumed_none (Ok p) = refl
 resumed_none (Err e) = refl
@@ -82,84 +89,148 @@ set_inside columns k row bits f h j =
     (λ ne. rw (get_or-set_other bits k j row 0 ne) (f j))
     (cases_eq j k)
 
+-- ---- rows laid over zeros
+
+module _ (n : ℕ) (rows : List ℕ) (long : length rows ≡ n) where
+  past_zero : (j : ℕ) → n ≤ j → get_or {A = ℕ} (rows ++ drop n (replicate 64 0)) j 0 ≡ 0
+  past_zero j h = get_or-append_right rows (drop n (replicate 64 0)) n j 0 long h ∙ get_or-drop n (replicate {A = ℕ} 64 0) (j - n) 0 ∙ zeros 64 (n + (j - n))
+
+  pub laid_inside : (columns : ℕ) → Inside columns rows → Inside columns (rows ++ drop n (replicate 64 0))
+  laid_inside columns f j =
+      elim (cases_lt j n) [
+        | inl l ↦ rw (get_or_append_left rows (drop n (replicate 64 0)) 0 j (omega (arith, long))) (f j)
+        | inr g ↦ rw (past_zero j g) (pow_pos columns)
+      ]
+
+  pub laid_blank : Blank n (rows ++ drop n (replicate 64 0))
+  laid_blank j h = past_zero j h
+
+  pub laid_front : take n (rows ++ drop n (replicate 64 0)) ≡ rows
+  laid_front = take_at rows (drop n (replicate 64 0)) n long
+
 -- what the loop keeps: what is left of the bytes ends where they ended, what was read and what is still to be read make
 -- up the whole answer, the rows from k on are still zero, and those before have no bit past the columns
-pub record Going (at : ℕ) (part : List ℕ) (map count columns k next left : ℕ) (rest bits : List ℕ) : Type 0 where
-  pub ends : next + length rest ≡ at + length part
-  pub long : length bits ≡ 64
-  pub whole : resumed (take k bits) (read_rows (count - k) left columns (at + length part) next rest) ≡ read_rows count map columns (at + length part) at part
-  pub blank : Blank k bits
-  pub inside : Inside columns bits
+pub record Going (start part : Part) (map columns count k left : ℕ) (rows : List ℕ) : Type 0 where
+  pub ends : end_of part ≡ end_of start
+  pub long : length rows ≡ count
+  pub whole : resumed (take k rows) (read_rows (count - k) left columns (end_of start) part.at part.bytes.now) ≡ read_rows count map columns (end_of start) start.at start.bytes.now
+  pub blank : Blank k rows
+  pub inside : Inside columns rows
 
-module _ {at : ℕ} {part : List ℕ} {map count columns k next left : ℕ} {rest bits : List ℕ} (few : count ≤ 64) (g : Going at part map count columns k next left rest bits) where
-  pub going_skip : k < count → left % 2 ≡ 0 → Going at part map count columns (k + 1) next (left / 2) rest bits
+pub going_none : (start : Part) (map columns count : ℕ) (rows : List ℕ) → rows ≡ replicate count 0 → Going start start map columns count 0 map rows
+going_none start map columns count rows e =
+    record {
+      ends = refl;
+      long = ap length e ∙ length-replicate count 0;
+      whole = let all : count - 0 ≡ count = omega arith in rw all (resumed_none _);
+      blank = λ j h. rw e (zeros count j);
+      inside = λ j. rw e (zeros_inside columns count j);
+    }
+
+module _ {start part : Part} {map columns count k left : ℕ} {rows : List ℕ} (g : Going start part map columns count k left rows) where
+  pub going_skip : k < count → left % 2 ≡ 0 → Going start part map columns count (k + 1) (left / 2) rows
   going_skip l e =
       record {
         ends = g.ends;
         long = g.long;
-        whole = skip_at left columns (at + length part) next rest count k bits l (omega (arith, g.long)) (g.blank k (omega arith)) e ∙ g.whole;
+        whole = skip_at left columns (end_of start) part.at part.bytes.now count k rows l (omega (arith, g.long)) (g.blank k (omega arith)) e ∙ g.whole;
         blank = λ j h. g.blank j (omega arith);
         inside = g.inside;
       }
 
-  pub going_stored : (row : ℕ) → k < count → left % 2 ≡ 1 → 8 ≤ length rest → read_row (next + length rest) next columns rest ≡ Ok row
-      → Going at part map count columns (k + 1) (next + 8) (left / 2) (drop 8 rest) (set bits k row)
-  going_stored row l e long o =
-      let here : read_row (at + length part) next columns rest ≡ Ok row = rw (← g.ends) o in
-      let w : Row columns rest row = IfOk-at_ok (Row columns rest) here (row_accepted (at + length part) next columns rest) in
+  pub going_stored : (row : ℕ) (part' : Part) → k < count → left % 2 ≡ 1 → Past 8 part part' → read_row (end_of part) part.at columns part.bytes.now ≡ Ok row
+      → Going start part' map columns count (k + 1) (left / 2) (set rows k row)
+  going_stored row part' l e past o =
+      let here : read_row (end_of start) part.at columns part.bytes.now ≡ Ok row = rw (← g.ends) o in
+      let w : Row columns part.bytes.now row = IfOk-at_ok (Row columns part.bytes.now) here (row_accepted (end_of start) part.at columns part.bytes.now) in
       record {
-        ends = omega (arith, length-drop 8 rest, g.ends);
-        long = length-set bits k row ∙ g.long;
-        whole = stored_at left columns (at + length part) next rest count k row bits l (omega (arith, g.long)) e here ∙ g.whole;
+        ends = past_ends 8 part part' past ∙ g.ends;
+        long = length-set rows k row ∙ g.long;
+        whole = rw (past.place, past.bytes) (stored_at left columns (end_of start) part.at part.bytes.now count k row rows l (omega (arith, g.long)) e here ∙ g.whole);
         blank = λ j h. let ne : j ≢ k = omega arith in rw get_or-set_other (g.blank j (omega arith));
-        inside = set_inside columns k row bits g.inside w.narrow;
+        inside = set_inside columns k row rows g.inside w.narrow;
       }
 
-  pub going_refused : (e : TableFault) → k < count → left % 2 ≡ 1 → read_row (next + length rest) next columns rest ≡ Err e
-      → Err e ≡ read_rows count map columns (at + length part) at part
+  pub going_refused : (e : TableFault) → k < count → left % 2 ≡ 1 → read_row (end_of part) part.at columns part.bytes.now ≡ Err e
+      → Err e ≡ read_rows count map columns (end_of start) start.at start.bytes.now
   going_refused e l one o =
-      let here : read_row (at + length part) next columns rest ≡ Err e = rw (← g.ends) o in
-      refused_at left columns (at + length part) next rest count k e bits l one here ∙ g.whole
+      let here : read_row (end_of start) part.at columns part.bytes.now ≡ Err e = rw (← g.ends) o in
+      refused_at left columns (end_of start) part.at part.bytes.now count k e rows l one here ∙ g.whole
 
-  pub going_done : count ≤ k → k ≤ count → Ok (take count bits, next) ≡ read_rows count map columns (at + length part) at part
-  going_done l u =
-      let same : k ≡ count = omega arith in
+  pub going_done : count ≤ k → Ok (rows, part.at) ≡ read_rows count map columns (end_of start) start.at start.bytes.now
+  going_done l =
       let none : count - k ≡ 0 = omega arith in
-      let w : resumed (take k bits) (read_rows 0 left columns (at + length part) next rest) ≡ read_rows count map columns (at + length part) at part = rw none at g.whole in
-      ap (λ n. Ok (take n bits, next)) (sym same) ∙ sym (done left columns (at + length part) next rest (take k bits)) ∙ w
+      let all : take k rows ≡ rows = take_all k rows (omega (arith, g.long)) in
+      let w = rw (none, all) at g.whole in
+      sym (done left columns (end_of start) part.at part.bytes.now rows) ∙ w
+
+-- ---- what is read next, and what then
+
+next_then : {X Y E : Type 0} (t : Bool) (e : E) (x : X) (f : X → Result Y E) → cond t (Err e) (f x) ≡ and_then (cond t (Err e) (Ok x)) f
+next_then true e x f = refl
+next_then false e x f = refl
+
+pub row_next : (end at columns : ℕ) (bs : List ℕ) → read_row end at columns bs ≡ and_then (next_word end bs) (λ w. checked_row w at columns)
+row_next end at columns bs = next_then (ltb (length bs) 8) (ended end) (from_bytes (take 8 bs)) (λ w. checked_row w at columns)
 
 -- ---- the map
 
-module _ (count columns map at : ℕ) (bs : List ℕ) (long : 8 ≤ length bs) (is : map ≡ from_bytes (take 8 bs)) (none : None ≡ lowest_past map count) where
-  pub map_held : held columns (read_rows count map columns (at + 8 + length (drop 8 bs)) (at + 8) (drop 8 bs)) ≡ read_map count columns (at + length bs) at bs
-  map_held =
-      let ends : at + 8 + length (drop 8 bs) ≡ at + length bs = omega (arith, length-drop 8 bs) in
-      let none' : None ≡ lowest_past (from_bytes (take 8 bs)) count = rw is at none in
-      rw (ends, is, le-ltb (length bs) 8 long, ← none', checked_map)
+module _ (count columns : ℕ) (part : Part) where
+  map_next : read_map count columns (end_of part) part.at part.bytes.now
+      ≡ and_then (next_word (end_of part) part.bytes.now) (λ map. checked_map count columns map (end_of part) part.at (drop 8 part.bytes.now))
+  map_next = next_then (ltb (length part.bytes.now) 8) (ended (end_of part)) (from_bytes (take 8 part.bytes.now)) (λ map. checked_map count columns map (end_of part) part.at (drop 8 part.bytes.now))
+
+  pub map_ended : (e : TableFault) → Err e ≡ next_word (end_of part) part.bytes.now → Err e ≡ read_map count columns (end_of part) part.at part.bytes.now
+  map_ended e o = rw (map_next, ← o)
+
+  module _ (map : ℕ) (o : Ok map ≡ next_word (end_of part) part.bytes.now) where
+    pub map_past : (b : ℕ) → Some b ≡ lowest_past map count → ill MapBit (part.at + b / 8) ≡ read_map count columns (end_of part) part.at part.bytes.now
+    map_past b l = rw (map_next, ← o, checked_map, ← l)
+
+    pub map_held : None ≡ lowest_past map count → (part' : Part) → Past 8 part part'
+        → held columns (read_rows count map columns (end_of part') part'.at part'.bytes.now) ≡ read_map count columns (end_of part) part.at part.bytes.now
+    map_held l part' p = rw (map_next, ← o, checked_map, ← l, past_ends 8 part part' p, p.place, p.bytes)
 
 -- ---- the whole table
+
+module _ (end at : ℕ) where
+  count_next : (bs : List ℕ) → read_count end at bs ≡ and_then (next_byte end bs) (λ b. checked_count b at)
+  count_next bs = next_then (ltb (length bs) 1) (ended end) (get_or bs 0 0) (λ b. checked_count b at)
 
 pub table_none : (end at : ℕ) (bs : List ℕ) → length bs < 1 → ill Ended end ≡ table_from end at bs
 unfolding table_from
 table_none end at bs short = rw (lt-ltb (length bs) 1 short)
 
-module _ (at : ℕ) (bs : List ℕ) (one : 1 ≤ length bs) where
-  pub table_rows : (e : TableFault) → checked_count (get_or bs 0 0) at ≡ Err e → Err e ≡ table_from (at + length bs) at bs
+module _ (part : Part) where
+  pub table_ended : (e : TableFault) → Err e ≡ next_byte (end_of part) part.bytes.now → Err e ≡ table_from (end_of part) part.at part.bytes.now
   unfolding table_from
-  table_rows e o = rw (le-ltb (length bs) 1 one, o)
+  table_ended e o = rw (count_next (end_of part) part.at part.bytes.now, ← o)
 
-  module _ (rows : ℕ) (o : checked_count (get_or bs 0 0) at ≡ Ok rows) where
-    pub table_short : length (drop 1 bs) < 1 → ill Ended (at + length bs) ≡ table_from (at + length bs) at bs
+  module _ (b : ℕ) (o : Ok b ≡ next_byte (end_of part) part.bytes.now) where
+    pub table_rows : (e : TableFault) → Err e ≡ checked_count b part.at → Err e ≡ table_from (end_of part) part.at part.bytes.now
     unfolding table_from
-    table_short short = rw (le-ltb (length bs) 1 one, o, lt-ltb (length (drop 1 bs)) 1 short)
+    table_rows e r = rw (count_next (end_of part) part.at part.bytes.now, ← o, ← r)
 
-    module _ (two : 1 ≤ length (drop 1 bs)) where
-      pub table_columns : (e : TableFault) → checked_count (get_or (drop 1 bs) 0 0) (at + 1) ≡ Err e → Err e ≡ table_from (at + length bs) at bs
+    module _ (rows : ℕ) (r : Ok rows ≡ checked_count b part.at) (behind : Part) (p : Past 1 part behind) where
+      pub table_short : (e : TableFault) → Err e ≡ next_byte (end_of behind) behind.bytes.now → Err e ≡ table_from (end_of part) part.at part.bytes.now
       unfolding table_from
-      table_columns e p = rw (le-ltb (length bs) 1 one, o, le-ltb (length (drop 1 bs)) 1 two, p)
+      table_short e o' =
+          let next : Err e ≡ next_byte (end_of part) (drop 1 part.bytes.now) = rw (past_ends 1 part behind p, p.bytes) at o' in
+          rw (count_next (end_of part) part.at part.bytes.now, ← o, ← r, count_next (end_of part) (part.at + 1) (drop 1 part.bytes.now), ← next)
 
-      pub table_map : (columns : ℕ) → checked_count (get_or (drop 1 bs) 0 0) (at + 1) ≡ Ok columns → read_map rows columns (at + 2 + length (drop 2 bs)) (at + 2) (drop 2 bs) ≡ table_from (at + length bs) at bs
-      unfolding table_from
-      table_map columns p =
-          let ends : at + 2 + length (drop 2 bs) ≡ at + length bs = omega (arith, length-drop 2 bs, length-drop 1 bs) in
-          rw (ends, le-ltb (length bs) 1 one, o, le-ltb (length (drop 1 bs)) 1 two, p)
+      module _ (b' : ℕ) (o' : Ok b' ≡ next_byte (end_of behind) behind.bytes.now) where
+        next : Ok b' ≡ next_byte (end_of part) (drop 1 part.bytes.now)
+        next = rw (past_ends 1 part behind p, p.bytes) at o'
+
+        pub table_columns : (e : TableFault) → Err e ≡ checked_count b' (part.at + 1) → Err e ≡ table_from (end_of part) part.at part.bytes.now
+        unfolding table_from
+        table_columns e l = rw (count_next (end_of part) part.at part.bytes.now, ← o, ← r, count_next (end_of part) (part.at + 1) (drop 1 part.bytes.now), ← next, ← l)
+
+        pub table_map : (columns : ℕ) → Ok columns ≡ checked_count b' (part.at + 1) → (rest : Part) → Past 1 behind rest
+            → read_map rows columns (end_of rest) rest.at rest.bytes.now ≡ table_from (end_of part) part.at part.bytes.now
+        unfolding table_from
+        table_map columns l rest q =
+            let ends : end_of rest ≡ end_of part = past_ends 1 behind rest q ∙ past_ends 1 part behind p in
+            let place : rest.at ≡ part.at + 2 = omega (arith, p.place, q.place) in
+            let bytes : rest.bytes.now ≡ drop 2 part.bytes.now = q.bytes ∙ ap (drop 1) p.bytes ∙ drop-drop 1 1 part.bytes.now in
+            rw (count_next (end_of part) part.at part.bytes.now, ← o, ← r, count_next (end_of part) (part.at + 1) (drop 1 part.bytes.now), ← next, ← l, ends, place, bytes)

@@ -6,3 +6,4 @@ pub mod Written
 pub mod Read
 pub mod Saved
 pub mod Told
+pub mod Taking

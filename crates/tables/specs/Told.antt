@@ -1,6 +1,7 @@
 -- What the faults of tables tell: reason, layer and place. Assumes nothing.
 use Rattle.refusals.specs.declared.Reason.{Reason}
 use Rattle.refusals.specs.declared.Reason.TheVariants as R
+use Rattle.refusals.specs.declared.Layer.TheVariants as L
 use Rattle.refusals.specs.declared.Told.{Told}
 use Rattle.refusals.specs.Numbers.{told}
 use Rattle.tables.specs.declared.fault.TableCause.{TableCause}
@@ -16,9 +17,9 @@ table_reason C.MapBit = R.MapBit
 table_reason C.ZeroRow = R.ZeroRow
 table_reason C.RowBit = R.RowBit
 
--- a table is layer 1
+-- found by the layer of tables
 abbrev pub table_told : TableFault → Told
-table_told e = told (table_reason e.cause) 1 e.place
+table_told e = told (table_reason e.cause) L.Table e.place
 
 abbrev pub save_reason : SaveFault → Reason
 save_reason S.Short = R.NoRoom

@@ -1,7 +1,7 @@
 ghost use Rattle.std.specs.Prelude.{◌≡◌};
 ghost use Rattle.tables.specs.Told.{table_told, save_reason};
 
-use refusals::{Reason, Told};
+use refusals::{Layer, Reason, Told};
 
 // Why bytes are no table.
 #[derive(Clone, Copy, PartialEq, Eq, Debug)]
@@ -25,11 +25,11 @@ pub struct TableFault {
     pub place: usize,
 }
 
-impl TableFault {
-    pub fn told(&self) -> Told
-        ensures { result ≡ table_told self.now }
-    {
-        let reason = match self.cause {
+impl From<TableFault> for Told {
+    ghost from_gives = { λ fault t. t ≡ table_told fault };
+
+    fn from(fault: TableFault) -> Told {
+        let reason = match fault.cause {
             TableCause::Ended => Reason::Ended,
             TableCause::TooMany => Reason::TooMany,
             TableCause::MapBit => Reason::MapBit,
@@ -38,8 +38,8 @@ impl TableFault {
         };
         Told {
             reason,
-            layer: 1,
-            place: self.place,
+            layer: Layer::Table,
+            place: fault.place,
         }
     }
 }
@@ -51,11 +51,11 @@ pub enum SaveFault {
     Short,
 }
 
-impl SaveFault {
-    pub fn reason(self) -> Reason
-        ensures { result ≡ save_reason self }
-    {
-        match self {
+impl From<SaveFault> for Reason {
+    ghost from_gives = { λ fault reason. reason ≡ save_reason fault };
+
+    fn from(fault: SaveFault) -> Reason {
+        match fault {
             SaveFault::Short => Reason::NoRoom,
         }
     }

@@ -2,6 +2,7 @@
 #![tactic(auto)]
 
 mod fault;
+mod part;
 mod read;
 mod rows;
 mod table;

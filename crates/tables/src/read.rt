@@ -1,10 +1,12 @@
 ghost use Rattle.std.specs.Prelude.{◌≡◌, ℕ, ◌+◌, ◌^◌, ◌<◌, ◌≤◌, length, IfSome, IfOk, OnOk};
 ghost use Rattle.tables.specs.Form.{Lawful};
 ghost use Rattle.tables.specs.Parts.{Anything, Exact};
+ghost use Rattle.tables.specs.Taking.{end_of, Past};
 ghost use Rattle.tables.specs.Written.{table_bytes};
 ghost use Rattle.tables.specs.Read.{lowest_past, checked_row, checked_count, held, read_map, read_row, read_rows, table_from, read_table, seen};
 
 use crate::fault::{TableCause, TableFault};
+use crate::part::{Counts, Part};
 use crate::table::Table;
 
 // The lowest set bit of `n` at or past `limit`.
@@ -41,58 +43,33 @@ fn checked_row(row: u64, at: usize, columns: usize) -> Result<u64, TableFault>
     }
 }
 
-// One stored row, whose bytes begin `part`, at the place `at`.
-fn read_row(part: &[u8], at: usize, columns: usize) -> Result<u64, TableFault>
-    requires { at + length part.now < 2 ^ 64 }
-    ensures value { result ≡ read_row (at + length part.now) at columns part.now }
-    ensures whole { OnOk result (8 ≤ length part.now) }
+// The next stored row.
+fn read_row(part: &mut Part, columns: usize) -> Result<u64, TableFault>
+    ensures value { result ≡ read_row (end_of part.old) part.old.at columns part.old.bytes.now }
+    ensures past { OnOk result (Past 8 part.old part.new) }
 {
-    let [b0, b1, b2, b3, b4, b5, b6, b7, ..] = part else {
-        return Err(TableFault {
-            cause: TableCause::Ended,
-            place: at + part.len(),
-        });
-    };
-    checked_row(
-        u64::from_le_bytes([*b0, *b1, *b2, *b3, *b4, *b5, *b6, *b7]),
-        at,
-        columns,
-    )
+    let at = part.at;
+    checked_row(part.word()?, at, columns)
 }
 
-// The table whose stored rows, those that `map` names, begin `part`, at the place `at`; and the place behind them.
-fn read_rows(
-    part: &[u8],
-    at: usize,
-    count: usize,
-    columns: usize,
-    map: u64,
-) -> Result<(Table, usize), TableFault>
-    requires room { at + length part.now < 2 ^ 64 }
-    requires few_rows { count ≤ 64 }
-    requires few_columns { columns ≤ 64 }
-    ensures { seen result ≡ held columns (read_rows count map columns (at + length part.now) at part.now) }
+// The table whose stored rows, those that `map` names, come next; and the place behind them.
+fn read_rows(mut part: Part, counts: Counts, map: u64) -> Result<(Table, usize), TableFault>
+    ensures { seen result ≡ held counts.columns (read_rows counts.rows map counts.columns (end_of part.entry) part.entry.at part.entry.bytes.now) }
 {
-    let mut bits = [0u64; 64];
-    let mut next = at;
-    let mut rest = part;
+    let mut bits = [0; 64];
     let mut left = map;
-    for k in 0..count {
+    for row in bits[..counts.rows].iter_mut() {
         if left % 2 == 1 {
-            bits[k] = read_row(rest, next, columns)?;
-            next += 8;
-            rest = &rest[8..];
+            *row = read_row(&mut part, counts.columns)?;
         }
         left /= 2;
     }
-    Ok((
-        Table {
-            count,
-            columns,
-            bits,
-        },
-        next,
-    ))
+    let table = Table {
+        count: counts.rows,
+        columns: counts.columns,
+        bits,
+    };
+    Ok((table, part.at))
 }
 
 // A count of rows or columns, whose byte stands at the place `at`.
@@ -109,54 +86,29 @@ fn checked_count(byte: u8, at: usize) -> Result<usize, TableFault>
     Ok(byte as usize)
 }
 
-// The map, which begins `part`, and the rows behind it.
-fn read_map(
-    part: &[u8],
-    at: usize,
-    count: usize,
-    columns: usize,
-) -> Result<(Table, usize), TableFault>
-    requires room { at + length part.now < 2 ^ 64 }
-    requires few_rows { count ≤ 64 }
-    requires few_columns { columns ≤ 64 }
-    ensures { seen result ≡ read_map count columns (at + length part.now) at part.now }
+// The map and the rows behind it.
+fn read_map(mut part: Part, counts: Counts) -> Result<(Table, usize), TableFault>
+    ensures { seen result ≡ read_map counts.rows counts.columns (end_of part.entry) part.entry.at part.entry.bytes.now }
 {
-    let [m0, m1, m2, m3, m4, m5, m6, m7, rest @ ..] = part else {
-        return Err(TableFault {
-            cause: TableCause::Ended,
-            place: at + part.len(),
-        });
-    };
-    let map = u64::from_le_bytes([*m0, *m1, *m2, *m3, *m4, *m5, *m6, *m7]);
-    if let Some(past) = lowest_past(map, count) {
+    let at = part.at;
+    let map = part.word()?;
+    if let Some(past) = lowest_past(map, counts.rows) {
         return Err(TableFault {
             cause: TableCause::MapBit,
             place: at + past / 8,
         });
     }
-    read_rows(rest, at + 8, count, columns, map)
+    read_rows(part, counts, map)
 }
 
-// The table whose bytes begin `part`, at the place `at`, and the place behind it.
-fn read_part(part: &[u8], at: usize) -> Result<(Table, usize), TableFault>
-    requires { at + length part.now < 2 ^ 64 }
-    ensures { seen result ≡ table_from (at + length part.now) at part.now }
+// The table that comes next, and the place behind it.
+fn read_part(mut part: Part) -> Result<(Table, usize), TableFault>
+    ensures { seen result ≡ table_from (end_of part.entry) part.entry.at part.entry.bytes.now }
 {
-    let [count, rest @ ..] = part else {
-        return Err(TableFault {
-            cause: TableCause::Ended,
-            place: at + part.len(),
-        });
-    };
-    let count = checked_count(*count, at)?;
-    let [columns, rest @ ..] = rest else {
-        return Err(TableFault {
-            cause: TableCause::Ended,
-            place: at + part.len(),
-        });
-    };
-    let columns = checked_count(*columns, at + 1)?;
-    read_map(rest, at + 2, count, columns)
+    let at = part.at;
+    let rows = checked_count(part.byte()?, at)?;
+    let columns = checked_count(part.byte()?, at + 1)?;
+    read_map(part, Counts { rows, columns })
 }
 
 // The table from the place `at` on, and the place behind it.
@@ -171,5 +123,6 @@ pub fn read_table(input: &[u8], at: usize) -> Result<(Table, usize), TableFault>
             place: input.len(),
         });
     }
-    read_part(&input[at..], at)
+    let bytes = &input[at..];
+    read_part(Part { bytes, at })
 }

@@ -23,8 +23,8 @@ impl Table {
         let width = columns.min(64);
         let count = rows.len().min(64);
         let mut bits = [0; 64];
-        for k in 0..count {
-            bits[k] = cut(rows[k], width);
+        for (k, row) in rows[..count].iter().enumerate() {
+            bits[k] = cut(*row, width);
         }
         Table {
             count,

@@ -1,4 +1,4 @@
-// A table of at most 64 rows of at most 64 columns.
+// A table of at most 64 rows of at most 64 columns. The rows lie in an array of fixed length, since the library has no heap.
 ghost use Rattle.std.specs.Prelude.{◌≤◌};
 ghost use Rattle.tables.specs.Shape.{Inside, Blank};
 

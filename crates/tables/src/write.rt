@@ -1,4 +1,4 @@
-ghost use Rattle.std.specs.Prelude.{◌≡◌, ℕ, ◌+◌, ◌-◌, ◌*◌, ◌<◌, ◌≤◌, length, take, IfOk, Ok};
+ghost use Rattle.std.specs.Prelude.{◌≡◌, ℕ, ◌+◌, ◌-◌, ◌*◌, ◌<◌, ◌≤◌, ◌==◌, not, count_by, length, take, IfOk, Ok};
 ghost use Rattle.text.specs.Lay.{lay};
 ghost use Rattle.tables.specs.Bytes.{bytes_of};
 ghost use Rattle.tables.specs.Form.{view};
@@ -9,30 +9,15 @@ ghost use Rattle.tables.specs.Saved.{Saved};
 use crate::fault::SaveFault;
 use crate::table::Table;
 
-// Writes the eight bytes of `x`, lowest first, from the place `at` on, and answers the place behind them.
-fn put_word(out: &mut [u8], at: usize, x: u64) -> usize
-    requires { at + 8 ≤ length out.old }
-    ensures place { result ≡ at + 8 }
-    ensures after { out.new ≡ lay out.old at (bytes_of 8 x) }
-{
-    let mut left = x;
-    for i in 0..8 {
-        out[at + i] = (left % 256) as u8;
-        left /= 256;
-    }
-    at + 8
-}
-
 // Bit k says that row k is not zero.
 fn map_of(rows: &[u64]) -> u64
     requires { length rows.now ≤ 64 }
     ensures { result ≡ map_of rows.now }
 {
     let mut map = 0u64;
-    for k in (0..rows.len()).rev() {
-        map *= 2;
-        if rows[k] != 0 {
-            map += 1;
+    for (k, row) in rows.iter().enumerate() {
+        if *row != 0 {
+            map += 1 << k;
         }
     }
     map
@@ -41,16 +26,10 @@ fn map_of(rows: &[u64]) -> u64
 // How many bytes the stored rows take.
 fn rows_len(rows: &[u64]) -> usize
     requires { length rows.now ≤ 64 }
-    ensures value { result ≡ length (rows_bytes rows.now) }
+    ensures value { result ≡ 8 * count_by (λ row. not (row == 0)) rows.now }
     ensures near { result ≤ 512 }
 {
-    let mut len = 0;
-    for row in rows {
-        if *row != 0 {
-            len += 8;
-        }
-    }
-    len
+    8 * rows.iter().filter(|row| **row != 0).count()
 }
 
 // Writes the rows that are not zero from the place `at` on, and answers the place behind them.
@@ -62,7 +41,8 @@ fn put_rows(out: &mut [u8], at: usize, rows: &[u64]) -> usize
     let mut next = at;
     for row in rows {
         if *row != 0 {
-            next = put_word(out, next, *row);
+            out[next..next + 8].copy_from_slice(&row.to_le_bytes());
+            next += 8;
         }
     }
     next
@@ -80,6 +60,6 @@ pub fn write_table(table: &Table, out: &mut [u8]) -> Result<usize, SaveFault>
     }
     out[0] = rows.len() as u8;
     out[1] = table.columns as u8;
-    let next = put_word(out, 2, map_of(rows));
-    Ok(put_rows(out, next, rows))
+    out[2..10].copy_from_slice(&map_of(rows).to_le_bytes());
+    Ok(put_rows(out, 10, rows))
 }

@@ -1,8 +1,11 @@
-use Rattle.std.proofs.Common.{◌≡◌, ℕ, true, false, List, sym, subst, inl, inr}
+use Rattle.std.proofs.Common.{◌≡◌, ℕ, true, false, List, Ok, Err, Result, MatchResult, sym, arith, rules, subst, inl, inr}
 use Rattle.std.proofs.lemmas.Result.{err_from_is_err_and}
 use Rattle.std.proofs.lemmas.Bool.{cases_Bool}
 use Rattle.graphs.specs.JointTable.{TableLawful}
-use Rattle.sources.specs.Faults.{fault_at}
+use Rattle.std.specs.Result.{IsErrAnd}
+use Rattle.sources.specs.declared.fault.JointFault.{JointFault}
+use Rattle.jobs.specs.declared.fault.JobFault.{JobFault}
+use Rattle.sources.specs.Faults.{fault_at, LookedOver}
 use Rattle.tables.specs.Form.{Form, view}
 use Rattle.tables.specs.Parts.{inside}
 use Rattle.tables.specs.Read.{read_table}
@@ -34,20 +37,34 @@ module _ (f : Form) (rows : List ℕ) (columns : ℕ) (r : rows ≡ f.rows) (n :
         | inr e ↦ e
       ]
 
-pub returns-in-Ok : goal.returns-in-Ok
-returns-in-Ok c =
+-- what the look-over said, by what became of its answer
+module _ (P : Type 0) (Post : JointFault → JobFault → Type 0) where
+  over_ok : (r : Result (Unit {0}) JointFault) (s : Result (Unit {0}) JobFault) → LookedOver r P → MatchResult r (λ x. s ≡ Ok x) (λ e. IsErrAnd s (Post e)) → s ≡ Ok tt → P
+  over_ok (Ok x) s l m h = l
+  over_ok (Err e) (Ok x) l m h = absurd m
+  over_ok (Err e) (Err d) l m h = let z : ◌≡◌ {A = ℕ} 0 1 = cc in absurd (omega arith)
+
+  over_err : (r : Result (Unit {0}) JointFault) (s : Result (Unit {0}) JobFault) (d : JobFault) → LookedOver r P → MatchResult r (λ x. s ≡ Ok x) (λ e. IsErrAnd s (Post e)) → s ≡ Err d → P → ⊥
+  over_err (Err e) s d l m h = l.0
+  over_err (Ok x) s d l m h = let z : ◌≡◌ {A = ℕ} 0 1 = cc in absurd (omega arith)
+
+pub returns-in_err-map_err : goal.returns-in_err-map_err
+returns-in_err-map_err c =
+    let d : c.in_err-map_err.field-0.0 ≡ J.Joints (fault_at c.args.at) = search rules in
+    let p = err_from_is_err_and c.from_residual-in_err-map_err.result c.from_residual-in_err-map_err.ensures.1 in
+    record {
+      value = rw (p.1, p.2, d)
+          (sym (checked_not (inside read_table J.Table) c.args.input.now c.args.at joint_test (λ at. J.Joints (fault_at at))
+          (inside_done read_table c.args.input.now c.args.at J.Table (sym c.in_ok-table.ensures.value))
+          (fails (view c.in_ok-table.table) c.rows.result.now c.columns.result c.rows.ensures.value c.columns.ensures (over_err _ _ _ _ _ c.look_over.ensures c.map_err.ensures.cases c.in_err-map_err.was))));
+      within = rw p.1 tt;
+    }
+
+pub returns : goal.returns
+returns c =
     record {
       value = sym (checked_done (inside read_table J.Table) c.args.input.now c.args.at joint_test (λ at. J.Joints (fault_at at))
           (inside_done read_table c.args.input.now c.args.at J.Table (sym c.in_ok-table.ensures.value))
-          (passes (view c.in_ok-table.table) c.rows.result.now c.columns.result c.rows.ensures.value c.columns.ensures c.in-Ok.ensures));
+          (passes (view c.in_ok-table.table) c.rows.result.now c.columns.result c.rows.ensures.value c.columns.ensures (over_ok _ _ _ _ c.look_over.ensures c.map_err.ensures.cases c.in_ok-map_err.was)));
       within = c.in_ok-table.ensures.within;
-    }
-
-pub returns-in-Err : goal.returns-in-Err
-returns-in-Err c =
-    record {
-      value = sym (checked_not (inside read_table J.Table) c.args.input.now c.args.at joint_test (λ at. J.Joints (fault_at at))
-          (inside_done read_table c.args.input.now c.args.at J.Table (sym c.in_ok-table.ensures.value))
-          (fails (view c.in_ok-table.table) c.rows.result.now c.columns.result c.rows.ensures.value c.columns.ensures c.in-Err.ensures.0));
-      within = tt;
     }

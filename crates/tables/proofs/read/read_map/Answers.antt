@@ -1,12 +1,15 @@
-use Rattle.std.proofs.Common.{◌≤◌, length, ◌∙◌, arith, ltb-false}
-use Rattle.std.proofs.lemmas.List.{take_rest}
-use Rattle.tables.proofs.Words.{le_8}
-use Rattle.tables.proofs.Steps.{map_held}
+use Rattle.std.proofs.Common.{◌∙◌}
+use Rattle.std.proofs.lemmas.Result.{err_from_is_err_and}
+use Rattle.tables.proofs.Steps.{map_ended, map_past, map_held}
 use Rattle.tables.proofs.read.read_map.Goals as goal
 
+pub returns-in_err-map : goal.returns-in_err-map
+returns-in_err-map c =
+    let p = err_from_is_err_and c.from_residual.result c.from_residual.ensures.1 in
+    rw (p.1, p.2) (map_ended _ _ c.args.part _ c.in_err-map.ensures.value)
+
+pub returns-in-Some : goal.returns-in-Some
+returns-in-Some c = map_past _ _ c.args.part _ c.in_ok-map.ensures.value _ c.in-Some.ensures.value
+
 pub returns : goal.returns
-returns c =
-    let long : 8 ≤ length c.args.part.now = omega (arith, ltb-false) in
-    let h = c.from_le_bytes-map.ensures ∙ le_8 c.args.part.now long in
-    let o = c.read_rows.ensures in
-    (rw take_rest at o) ∙ map_held c.args.count c.args.columns _ c.args.at c.args.part.now long h c.in_default-lowest_past.ensures.value
+returns c = c.read_rows.ensures ∙ map_held _ _ c.args.part _ c.in_ok-map.ensures.value c.in_default.ensures.value c.word.new.self c.in_ok-map.ensures.past

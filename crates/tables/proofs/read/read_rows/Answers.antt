@@ -1,31 +1,34 @@
-use Rattle.std.proofs.Common.{◌≡◌, ◌+◌, ◌-◌, length, sym, refl, ap, ◌∙◌, arith}
+use Rattle.std.proofs.Common.{sym, ap, ◌∙◌, arith, Ok}
 use Rattle.std.proofs.lemmas.Result.{err_from_is_err_and}
-use Rattle.std.proofs.lemmas.List.{take_rest}
-use Rattle.tables.specs.Read.{held, read_rows}
-use Rattle.tables.proofs.Steps.{going_skip, going_stored, going_refused, going_done, resumed_none, zeros, zeros_inside}
+use Rattle.std.proofs.lemmas.List.{set-get_or, take-replicate}
+use Rattle.tables.specs.Read.{held}
+use Rattle.tables.proofs.Steps.{going_none, going_skip, going_stored, going_refused, going_done, laid_inside, laid_blank, laid_front}
 use Rattle.tables.proofs.read.read_rows.Goals as goal
-use Rattle.tables.proofs.read.read_rows.Goals.{then-left-eq1+in_ok-bits, else-left-eq1}
+use Rattle.tables.proofs.read.read_rows.Goals.{then-left-eq1+in_ok-row, else-left-eq1}
 
-pub loop-k-init : goal.loop-k-init
-loop-k-init c = record { ends = refl; long = refl; whole = resumed_none _ ∙ ap (λ n. read_rows n c.args.map c.args.columns (c.args.at + length c.args.part.now) c.args.at c.args.part.now) (let z : c.args.count - 0 ≡ c.args.count = omega arith in z); blank = λ j h. zeros 64 j; inside = zeros_inside _ 64 }
+pub loop-row-init : goal.loop-row-init
+loop-row-init c = going_none _ _ _ c.args.counts.rows _ (take-replicate c.args.counts.rows 64 0 c.args.counts.few_rows)
 
-pub read_row-requires : goal.read_row-requires
-read_row-requires c = omega (arith, c.loop-k.invariant.ends)
-
-pub returns-in_err-bits : goal.returns-in_err-bits
-returns-in_err-bits c =
+pub returns-in_err-row : goal.returns-in_err-row
+returns-in_err-row c =
     let p = err_from_is_err_and c.from_residual.result c.from_residual.ensures.1 in
-    rw (p.1, p.2) (ap (held _) (going_refused c.requires.few_rows c.loop-k.invariant _ c.loop-k-test.true c.if-left-eq1.true (sym c.in_err-bits.ensures.value)))
+    rw (p.1, p.2) (ap (held _) (going_refused c.loop-row.invariant _ (omega arith) c.if-left-eq1.true (sym c.in_err-row.ensures.value)))
 
-pub loop-k-preserved : goal.loop-k-preserved
-loop-k-preserved c =
+pub loop-row-preserved : goal.loop-row-preserved
+loop-row-preserved c =
     elim c.if-left-eq1.branch [
-      | then-left-eq1+in_ok-bits w ↦
-          let rest = ap (λ r. r.now) w.rest-is ∙ take_rest c.loop-k.rest.now 8 in
-          simp (w.bits-is, w.next-is, rest) (going_stored c.requires.few_rows c.loop-k.invariant _ c.loop-k-test.true w.if-left-eq1.true w.in_ok-bits.ensures.whole (sym w.in_ok-bits.ensures.value))
+      | then-left-eq1+in_ok-row w ↦
+          simp (w.row-items-is) (going_stored c.loop-row.invariant _ c.if-left-eq1.part (omega arith) w.if-left-eq1.true (rw w.part-is w.in_ok-row.ensures.past) (sym w.in_ok-row.ensures.value))
       | else-left-eq1 w ↦
-          simp (w.bits-is, w.next-is, w.rest-is) (going_skip c.requires.few_rows c.loop-k.invariant c.loop-k-test.true (omega (arith, w.if-left-eq1.false)))
+          simp (w.row-items-is, w.part-is, set-get_or) (going_skip c.loop-row.invariant (omega arith) (omega (arith, w.if-left-eq1.false)))
     ]
 
+pub invariant_of-table : goal.invariant_of-table
+invariant_of-table c =
+    let g = c.loop-row.invariant in
+    record { few_rows = c.args.counts.few_rows; few_columns = c.args.counts.few_columns; inside = laid_inside _ _ g.long _ g.inside; blank = laid_blank _ _ g.long }
+
 pub returns : goal.returns
-returns c = ap (held _) (going_done c.requires.few_rows c.loop-k.invariant c.loop-k-test.false c.loop-k.auto.k-end)
+returns c =
+    let g = c.loop-row.invariant in
+    ap (λ rows. held c.args.counts.columns (Ok (rows, c.loop-row.part.at))) (laid_front _ _ g.long) ∙ ap (held _) (going_done g (omega arith))
