@@ -26,14 +26,14 @@ fn taken<A: Source, R: Source, F: Filter>(
         .taken as u64
 }
 
-// The filters in one room.
+// A line for each filter.
 #[derive(Clone, Copy)]
-struct Applications<'a> {
+struct FilterLines<'a> {
     run: Run<'a>,
     name: &'static str,
 }
 
-impl<'a> Applications<'a> {
+impl<'a> FilterLines<'a> {
     fn line<A: Source, R: Source, F: Filter>(
         &self,
         by: &str,
@@ -45,13 +45,14 @@ impl<'a> Applications<'a> {
         let units = problem.arrangement.count();
         let bays = problem.room.count();
         let pairs = taken(filter, problem, rows);
+        let turn = || taken(filter, problem, rows);
+        let nanos = self.run.time_of(TURNS, pairs, "pairs", turn)?;
         print!(self.run.rt; "apply {name} {by} {units} {bays} {pairs} taken")?;
-        self.run
-            .end_line(TURNS, pairs, "pairs", || taken(filter, problem, rows))
+        self.run.end_line(nanos)
     }
 }
 
-impl<'a> Measure for Applications<'a> {
+impl<'a> Measure for FilterLines<'a> {
     fn print<A: Source, R: Source>(&self, problem: Problem<A, R>, rows: &[u64]) -> io::Result<()> {
         self.line("degree", &Degree, &problem, rows)?;
         self.line("arcs", &ArcConsistency, &problem, rows)?;
@@ -62,5 +63,5 @@ impl<'a> Measure for Applications<'a> {
 // Each filter in the first room of the family.
 pub(crate) fn applications(run: Run, family: &Family) -> io::Result<()> {
     let name = family.name;
-    family.measure(run.rt.alloc(), 1, &Applications { run, name })
+    family.measure(run.rt.alloc(), 1, &FilterLines { run, name })
 }

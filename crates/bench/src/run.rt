@@ -27,27 +27,33 @@ fn repeated<F: Fn() -> u64>(turns: u64, turn: F) -> u64
 }
 
 impl<'a> Run<'a> {
-    // The end of a line, with the time of one turn in nanoseconds if that is asked for. What all turns come to is printed where it
-    // is not what it should be, so that no turn can be left out.
-    pub(crate) fn end_line<F: Fn() -> u64>(
+    // The time of one turn in nanoseconds, if it is asked for. What all turns come to is printed where it is not what it should be,
+    // so that no turn can be left out.
+    pub(crate) fn time_of<F: Fn() -> u64>(
         &self,
         turns: u64,
         each: u64,
         what: &str,
         turn: F,
-    ) -> io::Result<()>
+    ) -> io::Result<Option<u128>>
         requires { F.IsAlwaysCallable turn }
     {
         if !self.timed {
-            return println!(self.rt; "");
+            return Ok(None);
         }
         let start = Instant::now(self.rt)?;
         let all = repeated(turns, turn);
         let span = start.elapsed(self.rt)?;
         if all != each.wrapping_mul(turns) {
-            println!(self.rt; " ({all} {what} in {turns} turns)")?;
+            println!(self.rt; "{all} {what} in {turns} turns")?;
         }
-        let nanos = span.as_nanos() / u128::from(turns.max(1));
-        println!(self.rt; " {nanos}")
+        Ok(Some(span.as_nanos() / u128::from(turns.max(1))))
+    }
+
+    pub(crate) fn end_line(&self, nanos: Option<u128>) -> io::Result<()> {
+        if let Some(nanos) = nanos {
+            print!(self.rt; " {nanos}")?;
+        }
+        println!(self.rt; "")
     }
 }

@@ -25,15 +25,15 @@ fn seek<A: Source, R: Source>(problem: &Problem<A, R>, rows: &[u64]) -> Result<F
     )
 }
 
-// A seek in the room with this number.
+// A line for the seek in the room with this number.
 #[derive(Clone, Copy)]
-struct Seek<'a> {
+struct SeekLine<'a> {
     run: Run<'a>,
     name: &'static str,
     number: u64,
 }
 
-impl<'a> Measure for Seek<'a> {
+impl<'a> Measure for SeekLine<'a> {
     fn print<A: Source, R: Source>(&self, problem: Problem<A, R>, rows: &[u64]) -> io::Result<()> {
         let name = self.name;
         let number = self.number;
@@ -42,10 +42,11 @@ impl<'a> Measure for Seek<'a> {
         let answer = seek(&problem, rows);
         let tries = tries_of(answer);
         let found = if answer.is_ok() { "found" } else { "none" };
-        print!(self.run.rt; "seek {name} {number} {units} {bays} {tries} {found}")?;
         let turns = 20000 / tries.saturating_add(20) + 1;
-        self.run
-            .end_line(turns, tries, "tries", || tries_of(seek(&problem, rows)))
+        let turn = || tries_of(seek(&problem, rows));
+        let nanos = self.run.time_of(turns, tries, "tries", turn)?;
+        print!(self.run.rt; "seek {name} {number} {units} {bays} {tries} {found}")?;
+        self.run.end_line(nanos)
     }
 }
 
@@ -53,7 +54,7 @@ impl<'a> Measure for Seek<'a> {
 pub(crate) fn seeks(run: Run, family: &Family) -> io::Result<()> {
     let name = family.name;
     for number in 1..=family.rooms {
-        family.measure(run.rt.alloc(), number, &Seek { run, name, number })?;
+        family.measure(run.rt.alloc(), number, &SeekLine { run, name, number })?;
     }
     Ok(())
 }
