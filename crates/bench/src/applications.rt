@@ -1,153 +1,67 @@
 // Filters on fixed rooms: how many pairs they take away, and the time of one application.
-use crate::rooms::{Family, Shape};
+use crate::BOTH;
+use crate::rooms::Family;
+use crate::run::{Measure, Run};
 use consistency::ArcConsistency;
 use degree::Degree;
-use filters::{Filter, Then};
+use drawing::Problem;
+use filters::Filter;
 use graphs::Source;
-use sources::{JointTable, WallGrid};
 use std::io;
-use std::time::Instant;
 
 const TURNS: u64 = 20000;
 
-// How many pairs the filter takes away from the rows.
+// How many pairs the filter takes away from the rows. They are copied to an array, so that no allocation is timed.
 fn taken<A: Source, R: Source, F: Filter>(
     filter: &F,
-    arrangement: &A,
-    room: &R,
-    strict: bool,
+    problem: &Problem<A, R>,
     rows: &[u64],
 ) -> u64 {
     let mut left = [0u64; 24];
     let count = rows.len().min(24);
     let part = &mut left[0..count];
     part.copy_from_slice(&rows[0..count]);
-    filter.apply(arrangement, room, strict, part).taken as u64
+    filter
+        .apply(problem.arrangement, problem.room, problem.strict, part)
+        .taken as u64
 }
 
-// The pairs taken away by all applications.
-fn repeated<A: Source, R: Source, F: Filter>(
-    filter: &F,
-    arrangement: &A,
-    room: &R,
-    strict: bool,
-    rows: &[u64],
-) -> u64 {
-    let mut all: u64 = 0;
-    for _ in 0..TURNS {
-        all = all.wrapping_add(taken(filter, arrangement, room, strict, rows));
-    }
-    all
+// A line for each filter.
+#[derive(Clone, Copy)]
+struct FilterLines<'a> {
+    run: Run<'a>,
+    name: &'static str,
 }
 
-// One line. The pairs of all turns are printed where they are not what they should be, so that no turn can be left out.
-fn line<A: Source, R: Source, F: Filter>(
-    rt: &HostRuntime,
-    timed: bool,
-    name: &str,
-    by: &str,
-    filter: &F,
-    arrangement: &A,
-    room: &R,
-    strict: bool,
-    rows: &[u64],
-) -> io::Result<()> {
-    let pairs = taken(filter, arrangement, room, strict, rows);
-    let units = arrangement.count();
-    let bays = room.count();
-    if !timed {
-        return println!(rt; "apply {name} {by} {units} {bays} {pairs} taken");
+impl<'a> FilterLines<'a> {
+    fn line<A: Source, R: Source, F: Filter>(
+        &self,
+        by: &str,
+        filter: &F,
+        problem: &Problem<A, R>,
+        rows: &[u64],
+    ) -> io::Result<()> {
+        let name = self.name;
+        let units = problem.arrangement.count();
+        let bays = problem.room.count();
+        let pairs = taken(filter, problem, rows);
+        let turn = || taken(filter, problem, rows);
+        let nanos = self.run.time_of(TURNS, pairs, "pairs", turn)?;
+        print!(self.run.rt; "apply {name} {by} {units} {bays} {pairs} taken")?;
+        self.run.end_line(nanos)
     }
-    let start = Instant::now(rt)?;
-    let all = repeated(filter, arrangement, room, strict, rows);
-    let span = start.elapsed(rt)?;
-    if all != pairs.wrapping_mul(TURNS) {
-        println!(rt; "{all} pairs in {TURNS} turns")?;
-    }
-    let nanos = span.as_nanos() / TURNS as u128;
-    println!(rt; "apply {name} {by} {units} {bays} {pairs} taken {nanos}")
 }
 
-// Each filter in one room.
-fn lines<A: Source, R: Source>(
-    rt: &HostRuntime,
-    timed: bool,
-    name: &str,
-    arrangement: &A,
-    room: &R,
-    strict: bool,
-    rows: &[u64],
-) -> io::Result<()> {
-    let both = Then {
-        first: Degree,
-        second: ArcConsistency,
-    };
-    line(
-        rt,
-        timed,
-        name,
-        "degree",
-        &Degree,
-        arrangement,
-        room,
-        strict,
-        rows,
-    )?;
-    line(
-        rt,
-        timed,
-        name,
-        "arcs",
-        &ArcConsistency,
-        arrangement,
-        room,
-        strict,
-        rows,
-    )?;
-    line(
-        rt,
-        timed,
-        name,
-        "both",
-        &both,
-        arrangement,
-        room,
-        strict,
-        rows,
-    )
+impl<'a> Measure for FilterLines<'a> {
+    fn print<A: Source, R: Source>(&self, problem: Problem<A, R>, rows: &[u64]) -> io::Result<()> {
+        self.line("degree", &Degree, &problem, rows)?;
+        self.line("arcs", &ArcConsistency, &problem, rows)?;
+        self.line("both", &BOTH, &problem, rows)
+    }
 }
 
 // Each filter in the first room of the family.
-pub(crate) fn applications(rt: &HostRuntime, timed: bool, family: &Family) -> io::Result<()> {
-    let drawn = family.room(1);
-    let units = drawn.units.count.min(24);
-    let bays = drawn.bays.count.min(64);
-    let rows = &drawn.open[0..units];
-    let arrangement = JointTable::new(&drawn.units.rows[0..units], units);
-    match family.bays {
-        Shape::Wall { columns, levels } => {
-            let wall = WallGrid::new(columns, levels);
-            lines(
-                rt,
-                timed,
-                family.name,
-                &arrangement,
-                &wall,
-                family.strict,
-                rows,
-            )
-        }
-        _ => {
-            let table = JointTable::new(&drawn.bays.rows[0..bays], bays);
-            lines(
-                rt,
-                timed,
-                family.name,
-                &arrangement,
-                &table,
-                family.strict,
-                rows,
-            )
-        }
-    }
+pub(crate) fn applications(run: Run, family: &Family) -> io::Result<()> {
+    let name = family.name;
+    family.measure(run.rt.alloc(), 1, &FilterLines { run, name })
 }

@@ -2,14 +2,23 @@
 #![tactic(auto)]
 
 mod applications;
-mod chance;
 mod rooms;
+mod run;
 mod seeks;
 
 use applications::applications;
+use consistency::ArcConsistency;
+use degree::Degree;
+use filters::Then;
 use rooms::{Family, Shape};
+use run::Run;
 use seeks::seeks;
 use std::{env, io};
+
+const BOTH: Then<Degree, ArcConsistency> = Then {
+    first: Degree,
+    second: ArcConsistency,
+};
 
 // Arrangements of 24 units on rooms of 64 bays, with all pairs open or few of them.
 const APPLIED: [Family; 9] = [
@@ -268,23 +277,16 @@ const SOUGHT: [Family; 10] = [
     },
 ];
 
-// Whether the word `time` is among the arguments.
-fn wants_time(rt: &HostRuntime) -> io::Result<bool> {
-    for word in env::args(rt)? {
-        if word.as_str() == "time" {
-            return Ok(true);
-        }
-    }
-    Ok(false)
-}
-
 fn main(rt: HostRuntime) -> io::Result<()> {
-    let timed = wants_time(&rt)?;
+    let run = Run {
+        rt: &rt,
+        timed: env::args(&rt)?.any(|word| word.as_str() == "time"),
+    };
     for family in &APPLIED {
-        applications(&rt, timed, family)?;
+        applications(run, family)?;
     }
     for family in &SOUGHT {
-        seeks(&rt, timed, family)?;
+        seeks(run, family)?;
     }
     Ok(())
 }

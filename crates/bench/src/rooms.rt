@@ -1,5 +1,9 @@
 // Fixed arrangements and rooms, drawn from a shape and a number.
-use crate::chance::Chance;
+use crate::run::Measure;
+use drawing::{Chance, Graph, Problem};
+use sources::{JointTable, WallGrid};
+use std::alloc::{AllocError, Global};
+use std::io;
 
 // A graph to be drawn.
 #[derive(Clone, Copy)]
@@ -26,40 +30,6 @@ pub(crate) struct Family {
     pub open: u64,
 }
 
-#[derive(Clone, Copy)]
-pub(crate) struct Graph {
-    pub count: usize,
-    pub rows: [u64; 64],
-}
-
-impl Graph {
-    fn new(count: usize) -> Graph {
-        Graph {
-            count: count.min(64),
-            rows: [0; 64],
-        }
-    }
-
-    fn join(&mut self, a: usize, b: usize) {
-        if a < 64 && b < 64 && a != b {
-            self.rows[a] |= 1 << b;
-            self.rows[b] |= 1 << a;
-        }
-    }
-}
-
-fn random(chance: &mut Chance, nodes: usize, hundredths: u64) -> Graph {
-    let mut graph = Graph::new(nodes);
-    for a in 0..nodes {
-        for b in 0..a {
-            if chance.percent(hundredths) {
-                graph.join(a, b);
-            }
-        }
-    }
-    graph
-}
-
 fn tree(chance: &mut Chance, nodes: usize, more: usize) -> Graph {
     let mut graph = Graph::new(nodes);
     for a in 1..nodes {
@@ -69,20 +39,6 @@ fn tree(chance: &mut Chance, nodes: usize, more: usize) -> Graph {
         let a = chance.below(nodes);
         let b = chance.below(nodes);
         graph.join(a, b);
-    }
-    graph
-}
-
-fn grid(columns: usize, levels: usize) -> Graph {
-    let mut graph = Graph::new(columns.saturating_mul(levels));
-    for a in 0..graph.count {
-        if a % columns.max(1) + 1 < columns {
-            graph.join(a, a + 1);
-        }
-        let above = a.saturating_add(columns);
-        if above < graph.count {
-            graph.join(a, above);
-        }
     }
     graph
 }
@@ -98,42 +54,70 @@ fn ring(nodes: usize) -> Graph {
 impl Shape {
     fn graph(self, chance: &mut Chance) -> Graph {
         match self {
-            Shape::Random { nodes, hundredths } => random(chance, nodes, hundredths),
+            Shape::Random { nodes, hundredths } => Graph::random(chance, nodes, hundredths),
             Shape::Tree { nodes, more } => tree(chance, nodes, more),
-            Shape::Wall { columns, levels } => grid(columns, levels),
-            Shape::Grid { columns, levels } => grid(columns, levels),
+            Shape::Wall { columns, levels } | Shape::Grid { columns, levels } => {
+                Graph::wall(columns, levels)
+            }
             Shape::Ring { nodes } => ring(nodes),
         }
     }
 }
 
-// An arrangement, a room and the open rows.
-#[derive(Clone, Copy)]
-pub(crate) struct Room {
-    pub units: Graph,
-    pub bays: Graph,
-    pub open: [u64; 24],
-}
-
-fn open_rows(chance: &mut Chance, units: usize, bays: usize, hundredths: u64) -> [u64; 24] {
-    let mut rows = [0u64; 24];
-    for u in 0..units.min(24) {
-        for b in 0..bays.min(64) {
-            if chance.percent(hundredths) {
-                rows[u] |= 1 << b;
-            }
-        }
-    }
-    rows
+// An arrangement, a room, and for each unit the row of the bays that are open to it.
+#[derive(Drop)]
+struct Room {
+    units: Graph,
+    bays: Graph,
+    open: Vec<u64>,
 }
 
 impl Family {
     // The room with this number.
-    pub(crate) fn room(&self, number: u64) -> Room {
+    fn room(&self, alloc: Global, number: u64) -> Result<Room, AllocError> {
         let mut chance = Chance::new(number);
         let units = self.units.graph(&mut chance);
         let bays = self.bays.graph(&mut chance);
-        let open = open_rows(&mut chance, units.count, bays.count, self.open);
-        Room { units, bays, open }
+        let mut open = Vec::new(alloc);
+        for _ in 0..units.count {
+            open.push(chance.row(bays.count, self.open))?;
+        }
+        Ok(Room { units, bays, open })
+    }
+
+    // Measures in the room with this number: a wall by its two sizes, and any other room by a joint table.
+    pub(crate) fn measure<M: Measure>(
+        &self,
+        alloc: Global,
+        number: u64,
+        measure: &M,
+    ) -> io::Result<()> {
+        let room = self.room(alloc, number)?;
+        let arrangement = &JointTable::new(room.units.rows(), room.units.count);
+        let strict = self.strict;
+        match self.bays {
+            Shape::Wall { columns, levels } => {
+                let room_source = &WallGrid::new(columns, levels);
+                measure.print(
+                    Problem {
+                        arrangement,
+                        room: room_source,
+                        strict,
+                    },
+                    &room.open,
+                )
+            }
+            _ => {
+                let room_source = &JointTable::new(room.bays.rows(), room.bays.count);
+                measure.print(
+                    Problem {
+                        arrangement,
+                        room: room_source,
+                        strict,
+                    },
+                    &room.open,
+                )
+            }
+        }
     }
 }

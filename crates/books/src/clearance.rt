@@ -1,13 +1,8 @@
 // The clearance book: a unit asks for a clear height by its kind.
-ghost use Rattle.std.specs.Prelude.{◌≡◌};
+ghost use Rattle.std.specs.Prelude.{◌≡◌, ℕ, List};
 ghost use Rattle.books.specs.Clearance.{figure_of, figures_one, figures_two, reach_of, clears};
 
 use crate::Book;
-
-// The figures in mm by kind: base, wall, tall, hob, sink, oven housing, corner, shelf.
-const FIGURES_ONE: [u16; 8] = [0, 600, 1300, 650, 450, 900, 0, 300];
-
-const FIGURES_TWO: [u16; 8] = [0, 600, 1300, 750, 450, 900, 0, 300];
 
 // What kind a unit is. Kinds past the figures are no fault: they suit no bay.
 #[derive(Clone, Copy, PartialEq, Debug)]
@@ -41,54 +36,64 @@ fn figure(figures: &[u16; 8], kind: u8) -> Option<u16>
 fn clear(figures: &[u16; 8], unit: &KindCard, bay: &HeightCard) -> bool
     ensures { result ≡ clears figures.now unit.now bay.now }
 {
-    match figure(figures, unit.kind) {
-        Some(height) => height <= bay.reach(),
-        None => false,
-    }
+    figure(figures, unit.kind).is_some_and(|height| height <= bay.reach())
+}
+
+// An edition of the clearance book. No other crate can name the trait, so there are these two editions alone.
+pub trait ClearanceEdition {
+    const NUMBER: u16;
+
+    // The figures in mm by kind: base, wall, tall, hob, sink, oven housing, corner, shelf.
+    const FIGURES: [u16; 8];
+
+    // Both constants, for contracts.
+    ghost NUMBER: { ℕ };
+
+    ghost FIGURES: { List ℕ };
 }
 
 #[derive(Clone, Copy)]
-pub struct ClearanceOne;
+pub struct EditionOne;
 
-impl Book for ClearanceOne {
+impl ClearanceEdition for EditionOne {
+    const NUMBER: u16 = 1;
+
+    const FIGURES: [u16; 8] = [0, 600, 1300, 650, 450, 900, 0, 300];
+
+    ghost NUMBER = { 1 };
+
+    ghost FIGURES = { figures_one };
+}
+
+#[derive(Clone, Copy)]
+pub struct EditionTwo;
+
+impl ClearanceEdition for EditionTwo {
+    const NUMBER: u16 = 2;
+
+    const FIGURES: [u16; 8] = [0, 600, 1300, 750, 450, 900, 0, 300];
+
+    ghost NUMBER = { 2 };
+
+    ghost FIGURES = { figures_two };
+}
+
+// The clearance book of an edition.
+#[derive(Clone, Copy)]
+pub struct Clearance<E>(pub E);
+
+impl<E: ClearanceEdition> Book for Clearance<E> {
     type UnitCard = KindCard;
 
     type BayCard = HeightCard;
 
-    const EDITION: u16 = 1;
+    const EDITION: u16 = E::NUMBER;
 
-    ghost edition = { 1 };
+    ghost EDITION = { E.NUMBER };
 
-    ghost suiting = { λ book. clears figures_one };
-
-    fn suits(&self, unit: &KindCard, bay: &HeightCard) -> bool {
-        clear(&FIGURES_ONE, unit, bay)
-    }
-
-    fn edition_number(&self) -> u16 {
-        Self::EDITION
-    }
-}
-
-#[derive(Clone, Copy)]
-pub struct ClearanceTwo;
-
-impl Book for ClearanceTwo {
-    type UnitCard = KindCard;
-
-    type BayCard = HeightCard;
-
-    const EDITION: u16 = 2;
-
-    ghost edition = { 2 };
-
-    ghost suiting = { λ book. clears figures_two };
+    ghost suiting = { λ book. clears E.FIGURES };
 
     fn suits(&self, unit: &KindCard, bay: &HeightCard) -> bool {
-        clear(&FIGURES_TWO, unit, bay)
-    }
-
-    fn edition_number(&self) -> u16 {
-        Self::EDITION
+        clear(&E::FIGURES, unit, bay)
     }
 }

@@ -8,7 +8,7 @@ ghost use Rattle.books.specs.Fit.{handed};
 mod clearance;
 mod services;
 
-pub use clearance::{ClearanceOne, ClearanceTwo, HeightCard, KindCard};
+pub use clearance::{Clearance, EditionOne, EditionTwo, HeightCard, KindCard};
 pub use services::{NeedsCard, ServicesCard, ServicesOne};
 
 // A rule book: its own unit card, its own bay card and its edition.
@@ -19,8 +19,8 @@ pub trait Book {
 
     const EDITION: u16;
 
-    // The edition, for contracts.
-    ghost edition: { ℕ };
+    // The same, for contracts.
+    ghost EDITION: { ℕ };
 
     // What the book means: which unit card suits which bay card. Asked twice it says the same.
     ghost suiting: { Self → Self.UnitCard → Self.BayCard → Bool };
@@ -30,7 +30,10 @@ pub trait Book {
 
     // The constant, where the book is at hand as a value.
     fn edition_number(&self) -> u16
-        ensures { result ≡ edition };
+        ensures { result ≡ EDITION }
+    {
+        Self::EDITION
+    }
 }
 
 // The rows of the pairs whose cards suit by the book: of the first 24 unit cards and the first 64 bay cards.
@@ -82,15 +85,15 @@ mod tests {
         for (kind, height, one, two) in edges {
             let unit = KindCard { kind };
             let bay = HeightCard { height };
-            assert_eq!(rt; ClearanceOne.suits(&unit, &bay), one);
-            assert_eq!(rt; ClearanceTwo.suits(&unit, &bay), two);
+            assert_eq!(rt; Clearance(EditionOne).suits(&unit, &bay), one);
+            assert_eq!(rt; Clearance(EditionTwo).suits(&unit, &bay), two);
         }
     }
 
     #[test]
     fn editions(rt: HostRuntime) {
-        assert_eq!(rt; ClearanceOne.edition_number(), 1);
-        assert_eq!(rt; ClearanceTwo.edition_number(), 2);
+        assert_eq!(rt; Clearance(EditionOne).edition_number(), 1);
+        assert_eq!(rt; Clearance(EditionTwo).edition_number(), 2);
         assert_eq!(rt; ServicesOne.edition_number(), 1);
     }
 
@@ -124,10 +127,10 @@ mod tests {
             HeightCard { height: 700 },
             HeightCard { height: 300 },
         ];
-        let rows = suited_rows(&ClearanceOne, &units, &bays);
+        let rows = suited_rows(&Clearance(EditionOne), &units, &bays);
         assert_eq!(rt; rows[0], 3);
         assert_eq!(rt; rows[1], 2);
         assert_eq!(rt; rows[2], 0);
-        assert_eq!(rt; suited_rows(&ClearanceTwo, &units, &bays)[1], 0);
+        assert_eq!(rt; suited_rows(&Clearance(EditionTwo), &units, &bays)[1], 0);
     }
 }

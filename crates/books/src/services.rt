@@ -25,15 +25,11 @@ impl Book for ServicesOne {
 
     const EDITION: u16 = 1;
 
-    ghost edition = { 1 };
+    ghost EDITION = { 1 };
 
     ghost suiting = { λ book. serves };
 
     fn suits(&self, unit: &NeedsCard, bay: &ServicesCard) -> bool {
         unit.needs & bay.services == unit.needs
-    }
-
-    fn edition_number(&self) -> u16 {
-        Self::EDITION
     }
 }

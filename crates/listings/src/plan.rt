@@ -9,7 +9,7 @@ ghost use Rattle.listings.specs.Suited.{cards_of};
 ghost use Rattle.listings.specs.Fitted.{fitted_ledger};
 
 use crate::cards::{bay_cards, unit_cards};
-use books::{ClearanceOne, ClearanceTwo};
+use books::{Clearance, EditionOne, EditionTwo};
 use jobs::{Edition, Job};
 use plans::plan::Plan;
 use plans::refusal::Refusal;
@@ -23,8 +23,8 @@ fn fit_plan(plan: &mut Plan, job: &Job) -> Result<(), Refusal>
     let units = &kinds[0..job.kinds().len()];
     let bays = &heights[0..job.heights().len()];
     match job.edition {
-        Edition::One => plan.fit(&ClearanceOne, units, bays),
-        Edition::Two => plan.fit(&ClearanceTwo, units, bays),
+        Edition::One => plan.fit(&Clearance(EditionOne), units, bays),
+        Edition::Two => plan.fit(&Clearance(EditionTwo), units, bays),
     }
 }
 

@@ -1,99 +1,75 @@
 // The second search, from the rules alone: every list of bays in dictionary order, tested one by one.
-ghost use Rattle.std.specs.Prelude.{◌≡◌, ℕ, true, false, replicate};
+use drawing::{Chance, Graph};
+use graphs::holds;
+use std::alloc::{AllocError, Global};
 
-// Up to 8 nodes, and which of them are joined.
-#[derive(Clone, Copy)]
-pub(crate) struct Joints {
-    pub count: usize,
-    pub joined: [[bool; 8]; 8],
-}
-
-impl Joints {
-    pub(crate) fn new(count: usize) -> Joints
-        ensures count { result.count ≡ count }
-        ensures none { result.joined ≡ replicate 8 (replicate 8 false) }
-    {
-        Joints {
-            count,
-            joined: [[false; 8]; 8],
-        }
-    }
-
-    pub(crate) fn join(&mut self, a: usize, b: usize) {
-        if a < 8 && b < 8 {
-            self.joined[a][b] = true;
-            self.joined[b][a] = true;
-        }
-    }
-
-    pub(crate) fn has(&self, a: usize, b: usize) -> bool {
-        a < 8 && b < 8 && self.joined[a][b]
-    }
-}
-
-// An arrangement, a room, and which bays are open to which unit.
-#[derive(Clone, Copy)]
+// An arrangement, a room, and for each unit the row of the bays that are open to it.
+#[derive(Drop)]
 pub(crate) struct Case {
-    pub units: Joints,
-    pub bays: Joints,
-    pub open: [[bool; 8]; 8],
+    pub units: Graph,
+    pub bays: Graph,
+    pub open: Vec<u64>,
 }
 
 impl Case {
-    // How many lists of bays there are, one bay a unit.
-    pub(crate) fn lists(&self) -> usize {
-        let mut lists: usize = 1;
-        for _ in 0..self.units.count {
-            lists = lists.saturating_mul(self.bays.count);
+    // An arrangement and rows for a room of these bays.
+    pub(crate) fn draw(
+        alloc: Global,
+        chance: &mut Chance,
+        bays: Graph,
+    ) -> Result<Case, AllocError> {
+        let count = chance.between(1, 5);
+        let hundredths = chance.between(20, 80) as u64;
+        let units = Graph::random(chance, count, hundredths);
+        let share = chance.between(60, 110) as u64;
+        let mut open = Vec::new(alloc);
+        for _ in 0..count {
+            open.push(chance.row(bays.count, share))?;
         }
-        lists
+        Ok(Case { units, bays, open })
     }
 
-    // The list with this number, counted from 0 in dictionary order, and zeros behind.
+    // How many lists of bays there are, one bay a unit.
+    pub(crate) fn lists(&self) -> usize {
+        (0..self.units.count).fold(1usize, |lists, _| lists.saturating_mul(self.bays.count))
+    }
+
+    // The list with this number, counted from 0 in dictionary order, and zeros behind, as a search answers it.
     pub(crate) fn list(&self, number: usize) -> [u8; 24] {
+        let bays = self.bays.count.max(1);
         let mut list = [0u8; 24];
         let mut rest = number;
-        for u in (0..self.units.count.min(8)).rev() {
-            list[u] = (rest % self.bays.count.clamp(1, 8)) as u8;
-            rest /= self.bays.count.clamp(1, 8);
+        for bay in list.iter_mut().take(self.units.count).rev() {
+            *bay = (rest % bays) as u8;
+            rest /= bays;
         }
         list
     }
 
-    fn open_to(&self, u: usize, b: usize) -> bool {
-        u < 8 && b < 8 && self.open[u][b]
-    }
-
-    // Whether the bays of two different units obey the rules.
-    fn suits(&self, strict: bool, u: usize, b: usize, v: usize, c: usize) -> bool {
-        let units = self.units.has(u, v);
-        let bays = self.bays.has(b, c);
+    // Whether the bays b and c of two different units u and v obey the rules.
+    fn suits(&self, strict: bool, (u, b): (usize, usize), (v, c): (usize, usize)) -> bool {
+        let units = self.units.joined(u, v);
+        let bays = self.bays.joined(b, c);
         b != c && (bays || !units) && (units || !bays || !strict)
     }
 
-    // Whether every bay is open to its unit, and every two different units obey the rules.
+    // Whether the bay is open to the unit, and obeys the rules with the bay of each other unit.
+    fn fits(&self, strict: bool, list: &[u8], u: usize, b: usize) -> bool {
+        self.open.get(u).is_some_and(|row| holds(*row, b))
+            && list.iter().enumerate().all(|(v, c)| u == v
+                || self.suits(strict, (u, b), (v, usize::from(*c))))
+    }
+
+    // Whether each unit fits in its bay of the list.
     fn passes(&self, strict: bool, list: &[u8]) -> bool {
-        for (u, b) in list.iter().enumerate() {
-            if !self.open_to(u, *b as usize) {
-                return false;
-            }
-            for (v, c) in list.iter().enumerate() {
-                if u != v && !self.suits(strict, u, *b as usize, v, *c as usize) {
-                    return false;
-                }
-            }
-        }
-        true
+        list.iter()
+            .enumerate()
+            .all(|(u, b)| self.fits(strict, list, u, usize::from(*b)))
     }
 
     // The number of the first placement among the lists from this number on.
     pub(crate) fn placement_from(&self, strict: bool, number: usize) -> Option<usize> {
-        for k in number..self.lists() {
-            let list = self.list(k);
-            if self.passes(strict, &list[0..self.units.count.min(8)]) {
-                return Some(k);
-            }
-        }
-        None
+        let count = self.units.count.min(24);
+        (number..self.lists()).find(|k| self.passes(strict, &self.list(*k)[0..count]))
     }
 }

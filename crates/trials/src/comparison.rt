@@ -1,0 +1,82 @@
+// The two searches side by side.
+use crate::plain::Case;
+use crate::tally::Tally;
+use drawing::Problem;
+use filters::Filter;
+use graphs::Source;
+use placements::is_placement;
+use search::{Find, SearchError, first, next_after};
+
+// A case for the second search, and the same as the search is asked it.
+#[derive_where(Clone, Copy)]
+pub(crate) struct Comparison<'a, 'f, A, R, F> {
+    pub case: &'a Case,
+    pub problem: Problem<'a, A, R>,
+    pub filter: &'f F,
+}
+
+impl<'a, 'f, A: Source, R: Source, F: Filter> Comparison<'a, 'f, A, R, F> {
+    // Whether the answer is the list with this number, or no placement where there is none.
+    fn same(&self, wanted: Option<usize>, answer: Result<Find, SearchError>) -> bool {
+        let Problem {
+            arrangement,
+            room,
+            strict,
+        } = self.problem;
+        match (wanted, answer) {
+            (Some(number), Ok(find)) => {
+                let bays = &find.bays[0..self.case.units.count.min(24)];
+                find.bays == self.case.list(number) && is_placement(arrangement, room, strict, bays)
+            }
+            (None, Err(SearchError::NoPlacement { .. })) => true,
+            _ => false,
+        }
+    }
+
+    // Counts the answer of the search, and gives the number of the first placement from `from` on where both searches agree on it.
+    fn agreed(
+        &self,
+        from: usize,
+        answer: Result<Find, SearchError>,
+        tally: &mut Tally,
+    ) -> Option<usize> {
+        let wanted = self.case.placement_from(self.problem.strict, from);
+        let same = self.same(wanted, answer);
+        tally.count(answer, same);
+        wanted.filter(|_| same)
+    }
+
+    // The first placement after the list with this number, which need be no placement.
+    pub(crate) fn after(&self, number: usize, tally: &mut Tally) -> Option<usize> {
+        let Problem {
+            arrangement,
+            room,
+            strict,
+        } = self.problem;
+        let last = self.case.list(number);
+        let answer = next_after(
+            arrangement,
+            room,
+            strict,
+            self.filter,
+            &self.case.open,
+            &last,
+        );
+        self.agreed(number.saturating_add(1), answer, tally)
+    }
+
+    // The chain of all placements, each sought after the one before.
+    pub(crate) fn chain(&self, tally: &mut Tally) {
+        let Problem {
+            arrangement,
+            room,
+            strict,
+        } = self.problem;
+        let answer = first(arrangement, room, strict, self.filter, &self.case.open);
+        let mut placement = self.agreed(0, answer, tally);
+        for _ in 0..self.case.lists() {
+            let Some(number) = placement else { return };
+            placement = self.after(number, tally);
+        }
+    }
+}
