@@ -5,7 +5,7 @@ pub mod pairs;
 #[cfg(test)]
 mod tests;
 
-ghost use Rattle.std.specs.Prelude.{◌≡◌, ℕ};
+ghost use Rattle.std.specs.Prelude.{◌≡◌, ℕ, ◌<◌, ◌^◌};
 ghost use Rattle.graphs.specs.Rows.{bit, row_of};
 ghost use Rattle.graphs.specs.Nodes.{nodes_of};
 ghost use Rattle.graphs.specs.Graph.{Graph, Sound, Symmetric};
@@ -19,9 +19,10 @@ pub fn holds(row: u64, b: usize) -> bool
 }
 
 // The nodes of a row that are still to come, lowest first.
-#[derive(Clone, Debug, Drop)]
+#[derive(Drop)]
 pub struct RowNodes {
     rest: u64,
+    ghost fits: { rest < 2 ^ 64 },
 }
 
 // The nodes that the row holds, lowest first.

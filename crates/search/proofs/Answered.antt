@@ -1,6 +1,5 @@
 -- From the walk to what is answered. Assumes nothing.
-use Rattle.std.proofs.Common.{◌≡◌, ℕ, zero, suc, ◌+◌, ◌-◌, ◌<◌, ◌≤◌, min, Bool, true, false, List, length, get_or, replicate, Some, None, Ok, Err, Option, Result, sym, refl, ap, ◌∙◌, subst, arith}
-use mathlib.Core.Path.{fun_ext}
+use Rattle.std.proofs.Common.{◌≡◌, ℕ, ◌+◌, ◌-◌, ◌<◌, ◌≤◌, Bool, true, false, List, [], length, replicate, Some, None, Ok, Err, Option, Result, MatchResult, is_some, unwrap_or, sym, refl, ap, ◌∙◌, subst, arith}
 use Rattle.std.proofs.lemmas.List.{take_at}
 use Rattle.std.proofs.lemmas.Bool.{lt-ltb, le-ltb, cond-true, cond-false}
 use Rattle.placements.specs.Order.{IsFirst, Answers}
@@ -8,84 +7,47 @@ use Rattle.filters.specs.Filter.{Lawful, empty_count}
 use Rattle.search.specs.declared.Find.{Find}
 use Rattle.search.specs.declared.SearchError.{SearchError}
 use Rattle.search.specs.declared.SearchError.TheVariants.{IllShaped, NoPlacement}
-use Rattle.search.specs.Walk.{Setting, filtered, Outcome, any_empty, after_try, offered, nothing, counted, scan, settle, walk_from}
-use Rattle.search.specs.Found.{told, padded, padded_found, answer_with, answer_of, Searched}
+use Rattle.search.specs.Walk.{Setting, filtered, Outcome, any_empty, nothing, settle_after, walk_from, walk}
+use Rattle.search.specs.Found.{found_with, answer_with, answer_of, Searched}
+use Rattle.search.proofs.Going.{Settles}
 
--- ---- the walk's start
+-- ---- the whole walk, from its start
 
-module _ (w : Setting) (last : List ℕ) (tied : Bool) (rows part : List ℕ) (is : part ≡ filtered w rows) where
+by_option : (w : Setting) (last : Option (List ℕ)) (rows : List ℕ) → walk_from w (unwrap_or last []) (is_some last) rows ≡ walk w last rows
+by_option w (Some l) rows = refl
+by_option w None rows = refl
+
+module _ (w : Setting) (last : Option (List ℕ)) (rows part : List ℕ) (left : part ≡ filtered w rows) (empty : ℕ) (count : empty ≡ empty_count part) where
+  abbrev From : ℕ → List ℕ → Outcome
+  From later p = settle_after w last later 0 p
+
   either : Bool → Outcome
-  either t = elim t as (λ _. Outcome) [ true ↦ nothing 0 | false ↦ settle w last w.arrangement.count tied 0 (filtered w rows) ]
+  either t = elim t as (λ _. Outcome) [ true ↦ nothing 0 | false ↦ From w.arrangement.count (filtered w rows) ]
 
-  pub walk_empty : any_empty part ≡ true → walk_from w last tied rows ≡ nothing 0
+  starts : (t : Bool) → any_empty part ≡ t → walk w last rows ≡ either t
   unfolding walk_from either
-  walk_empty t = ap either (ap any_empty (sym is) ∙ t)
+  starts t e = sym (by_option w last rows) ∙ ap either (ap any_empty (sym left) ∙ e)
 
-  pub walk_full : Lawful w.filter → length rows ≡ w.arrangement.count → any_empty part ≡ false → walk_from w last tied rows ≡ settle w last (length part - 0) tied 0 part
-  unfolding walk_from either
-  walk_full lawful long t =
-      ap either (ap any_empty (sym is) ∙ t)
-      ∙ ap (settle w last w.arrangement.count tied 0) (sym is)
-      ∙ ap (λ (k : ℕ). settle w last k tied 0 part)
-      (let z : length part ≡ length rows = ap length is ∙ lawful.as_many w.arrangement w.room w.strict rows in let y : w.arrangement.count ≡ length part - 0 = omega arith in y)
+  -- a row is empty at the start
+  pub answers_empty : 0 < empty → ◌≡◌ {A = Result Find SearchError} (Err (NoPlacement 0)) (answer_with (walk w last rows).found (walk w last rows).tries)
+  unfolding either
+  answers_empty l = sym (ap (λ (o : Outcome). answer_with o.found o.tries) (starts true (lt-ltb 0 (empty_count part) (omega arith))))
 
--- ---- a first search does not read the last answer
-
-settle_unread : (w : Setting) (l l' : List ℕ) (later u : ℕ) (rows : List ℕ) → settle w l later false u rows ≡ settle w l' later false u rows
-unfolding settle
-settle_unread w l l' zero u rows = refl
-settle_unread w l l' (suc later) u rows =
-    ap (λ (here : ℕ → Outcome). scan (offered (get_or rows u 0) false 0 false) here 0 w.room.count)
-    (fun_ext (λ b. ap (λ (o : Outcome). elim (any_empty (after_try w u b rows)) as (λ _. Outcome) [ true ↦ nothing 1 | false ↦ counted o ])
-    (settle_unread w l l' later (suc u) (after_try w u b rows))))
-
-pub walk_unread : (w : Setting) (l l' : List ℕ) (rows : List ℕ) → walk_from w l false rows ≡ walk_from w l' false rows
-unfolding walk_from
-walk_unread w l l' rows =
-    ap (λ (o : Outcome). elim (any_empty (filtered w rows)) as (λ _. Outcome) [ true ↦ nothing 0 | false ↦ o ]) (settle_unread w l l' w.arrangement.count 0 (filtered w rows))
-
--- ---- the answer
-
-find_of : List ℕ → ℕ → Find
-find_of bays tries = record { bays = bays; tries = tries }
-
-answer_some : (o : Outcome) (bays : List ℕ) (t : ℕ) → Some bays ≡ padded_found o.found → t ≡ told o.tries → ◌≡◌ {A = Result Find SearchError} (Ok (record { bays = bays; tries = t })) (answer_with o.found o.tries)
-unfolding find_of
-answer_some o bays t e is = go o.found e
-  where
-    go : (f : Option (List ℕ)) → Some bays ≡ padded_found f → ◌≡◌ {A = Result Find SearchError} (Ok (record { bays = bays; tries = t })) (answer_with f o.tries)
-    go (Some w) x = let y : bays ≡ padded w = cc in ap (λ (b : List ℕ). Ok (find_of b t)) y ∙ ap (λ (k : ℕ). Ok (find_of (padded w) k)) is
-    go None x = absurd (let y : ◌≡◌ {A = ℕ} 0 1 = cc in omega arith)
-
-answer_none : (o : Outcome) (t : ℕ) → None ≡ padded_found o.found → t ≡ told o.tries → ◌≡◌ {A = Result Find SearchError} (Err (NoPlacement t)) (answer_with o.found o.tries)
-answer_none o t e is = go o.found e
-  where
-    go : (f : Option (List ℕ)) → None ≡ padded_found f → ◌≡◌ {A = Result Find SearchError} (Err (NoPlacement t)) (answer_with f o.tries)
-    go (Some w) x = absurd (let y : ◌≡◌ {A = ℕ} 0 1 = cc in omega arith)
-    go None x = ap (λ (k : ℕ). Err (NoPlacement k)) is
-
--- what the whole search answers, by what its start and its walk came to
-module _ (w : Setting) (last : List ℕ) (tied : Bool) (rows part : List ℕ) (is : part ≡ filtered w rows) (empty : ℕ) (count : empty ≡ empty_count part) where
-  abbrev Answer : Result Find SearchError
-  Answer = answer_with (walk_from w last tied rows).found (walk_from w last tied rows).tries
-
-  pub answers_empty : 0 < empty → ◌≡◌ {A = Result Find SearchError} (Err (NoPlacement 0)) (answer_with (walk_from w last tied rows).found (walk_from w last tied rows).tries)
-  answers_empty l = sym (ap (λ (o : Outcome). answer_with o.found o.tries) (walk_empty w last tied rows part is (lt-ltb 0 (empty_count part) (omega arith))))
-
-  module _ (lawful : Lawful w.filter) (long : length rows ≡ w.arrangement.count) (full : empty ≤ 0) (t : ℕ) (tries : t ≡ min (0 + (settle w last (length part - 0) tied 0 part).tries) 4294967295) where
-    same : settle w last (length part - 0) tied 0 part ≡ walk_from w last tied rows
-    same = sym (walk_full w last tied rows part is lawful long (le-ltb 0 (empty_count part) (omega arith)))
-
-    tries_are : t ≡ told (walk_from w last tied rows).tries
-    tries_are = tries ∙ ap (λ (k : ℕ). min k 4294967295) (let z : 0 + (settle w last (length part - 0) tied 0 part).tries ≡ (settle w last (length part - 0) tied 0 part).tries = omega arith in z) ∙ ap (λ (o : Outcome). told o.tries) same
-
-    pub answers_some : (bays : List ℕ) → Some bays ≡ padded_found (settle w last (length part - 0) tied 0 part).found
-        → ◌≡◌ {A = Result Find SearchError} (Ok (record { bays = bays; tries = t })) (answer_with (walk_from w last tied rows).found (walk_from w last tied rows).tries)
-    answers_some bays e = answer_some (walk_from w last tied rows) bays t (e ∙ ap (λ (o : Outcome). padded_found o.found) same) tries_are
-
-    pub answers_none : None ≡ padded_found (settle w last (length part - 0) tied 0 part).found
-        → ◌≡◌ {A = Result Find SearchError} (Err (NoPlacement t)) (answer_with (walk_from w last tied rows).found (walk_from w last tied rows).tries)
-    answers_none e = answer_none (walk_from w last tied rows) t (e ∙ ap (λ (o : Outcome). padded_found o.found) same) tries_are
+  -- the walk was taken, and came to r
+  pub answers_settled : Lawful w.filter → length rows ≡ w.arrangement.count → empty ≤ 0 → (r : Result Find ℕ) → Settles (settle_after w last (length part - 0) 0 part) 0 r
+      → (answer : Result Find SearchError) → MatchResult r (λ f. answer ≡ Ok f) (λ n. answer ≡ Err (NoPlacement n)) → answer ≡ answer_with (walk w last rows).found (walk w last rows).tries
+  unfolding either
+  answers_settled lawful long full r settled answer is =
+      let many : length part - 0 ≡ w.arrangement.count = omega (arith, ap length left ∙ lawful.as_many w.arrangement w.room w.strict rows, long) in
+      let whole : From (length part - 0) part ≡ walk w last rows =
+      ap (λ (k : ℕ). From k part) many ∙ ap (From w.arrangement.count) left ∙ sym (starts false (le-ltb 0 (empty_count part) (omega arith))) in
+      go (From (length part - 0) part).found (0 + (From (length part - 0) part).tries) (subst (λ (x : Result Find ℕ). MatchResult x (λ f. answer ≡ Ok f) (λ n. answer ≡ Err (NoPlacement n))) settled is)
+      ∙ ap (answer_with (From (length part - 0) part).found) (let z : 0 + (From (length part - 0) part).tries ≡ (From (length part - 0) part).tries = omega arith in z)
+      ∙ ap (λ (o : Outcome). answer_with o.found o.tries) whole
+    where
+      go : (o : Option (List ℕ)) (n : ℕ) → MatchResult (found_with o n) (λ f. answer ≡ Ok f) (λ k. answer ≡ Err (NoPlacement k)) → answer ≡ answer_with o n
+      go (Some q) n h = h
+      go None n h = h
 
 -- what is answered, in the subject's words
 pub searched : (P : List ℕ → Type 0) (m : ℕ) (o : Outcome) (r : Result Find SearchError) → r ≡ answer_with o.found o.tries → ((w : List ℕ) → P w → length w ≡ m) → Answers P o.found

@@ -1,15 +1,15 @@
 -- The loop over the bays of one unit, in what the code holds. Assumes nothing.
-use Rattle.std.proofs.Common.{◌≡◌, ℕ, ◌+◌, ◌-◌, ◌^◌, ◌<◌, ◌≤◌, min, Bool, true, false, not, ◌&&◌, ◌||◌, eqb, ltb, List, ◌++◌, length, get_or, is_some, Some, None, Option, sym, ap, ◌∙◌, arith}
-use lib.Bits.{bit_and, and_le_l}
-use lib.Count.{count_trailing_zeros}
+use Rattle.std.proofs.Common.{◌≡◌, ℕ, ◌+◌, ◌-◌, ◌<◌, ◌≤◌, min, Bool, true, false, not, ◌&&◌, ◌||◌, eqb, ltb, List, ◌++◌, length, get_or, is_some, Some, None, Ok, Err, Option, Result, sym, refl, ap, ◌∙◌, arith}
 use borrow.Rule.Slice.PartMut.{post_of}
 use Rattle.std.proofs.lemmas.Bool.{and_parts}
 use Rattle.graphs.specs.Rows.{bit}
 use Rattle.filters.specs.Filter.{Lawful}
 use Rattle.search.specs.Walk.{Setting, Outcome, any_empty, after_try, offered, settle, chosen, LeftBy}
-use Rattle.search.specs.Found.{padded, padded_found}
+use Rattle.search.specs.declared.Find.{Find}
+use Rattle.search.specs.Found.{told, padded, found_with}
 use Rattle.search.proofs.Narrowing.{left_under}
-use Rattle.search.proofs.Steps.{Turn, turn_start, lowest_offered, turn_past, turn_there, turn_end, settle_none, settle_some, trying, as_long, try_fails, try_goes, padded_some, none_of, front_long}
+use Rattle.graphs.proofs.Lowest.{Turn}
+use Rattle.search.proofs.Steps.{Pending, pending_start, lowest_offered, pending_past, pending_there, pending_end, settle_none, settle_some, trying, as_long, try_fails, try_goes, front_long}
 
 abbrev pub offer_at : List ℕ → Bool → ℕ → List ℕ → ℕ → Bool
 offer_at last tied u rows = offered (get_or rows u 0) tied (get_or last u 0) (eqb (u + 1) (length rows))
@@ -17,28 +17,41 @@ offer_at last tied u rows = offered (get_or rows u 0) tied (get_or last u 0) (eq
 abbrev pub settle_at : Setting → List ℕ → Bool → ℕ → List ℕ → Outcome
 settle_at w last tied u rows = settle w last (length rows - u) tied u rows
 
--- what the loop keeps: the turn, and that its numbers and its array fit
+-- what the loop keeps: what is still to come, and that its numbers and its array fit
 pub record Going (w : Setting) (last : List ℕ) (tied : Bool) (u : ℕ) (rows : List ℕ) (t₀ t rest : ℕ) (next : List ℕ) : Type 0 where
-  pub turn : Turn (settle_at w last tied u rows) (offer_at last tied u rows) (trying w last (length rows - (u + 1)) tied u rows) w.room.count t₀ t rest
-  pub fits : rest < 2 ^ 64
+  pub pending : Pending (settle_at w last tied u rows) (offer_at last tied u rows) (trying w last (length rows - (u + 1)) tied u rows) w.room.count t₀ t rest
   pub long : length next ≡ 24
   pub small : t ≤ 4294967295
 
 -- what is answered of a walk after t tries
-pub record Settles (o : Outcome) (t : ℕ) (found : Option (List ℕ)) (made : ℕ) : Type 0 where
-  pub bays : found ≡ padded_found o.found
-  pub tries : made ≡ min (t + o.tries) 4294967295
+abbrev pub Settles : Outcome → ℕ → Result Find ℕ → Type 0
+Settles o t r = r ≡ found_with o.found (t + o.tries)
+
+find_of : List ℕ → ℕ → Find
+find_of bays tries = record { bays = bays; tries = tries }
+
+told_same : (o : Option (List ℕ)) (m n : ℕ) → told m ≡ told n → found_with o m ≡ found_with o n
+unfolding find_of
+told_same (Some w) m n e = ap (λ (k : ℕ). Ok (find_of (padded w) k)) e
+told_same None m n e = ap Err e
+
+none_found : (o : Option (List ℕ)) (n made : ℕ) → Err made ≡ found_with o n → (o ≡ None) × (made ≡ told n)
+none_found (Some w) n made e = absurd (let y : ◌≡◌ {A = ℕ} 0 1 = cc in omega arith)
+none_found None n made e = (refl, cc)
+
+some_found : (o : Option (List ℕ)) (n : ℕ) (find : Find) → Ok find ≡ found_with o n → is_some o ≡ true
+some_found (Some w) n find e = refl
+some_found None n find e = absurd (let y : ◌≡◌ {A = ℕ} 0 1 = cc in omega arith)
 
 pub going_none : (w : Setting) (last : List ℕ) (tied : Bool) (u : ℕ) (rows : List ℕ) (t : ℕ) (bays : List ℕ) → length rows ≤ u → t < 4294967296 → bays ≡ padded (chosen rows)
-    → Settles (settle_at w last tied u rows) t (Some bays) t
+    → Settles (settle_at w last tied u rows) t (Ok (record { bays = bays; tries = t }))
+unfolding find_of
 going_none w last tied u rows t bays l small is =
-    let e = settle_none w last tied u (length rows) rows l in
-    record {
-      bays = ap Some is ∙ sym (ap (λ (o : Outcome). padded_found o.found) e);
-      tries = (let z = ap (λ (o : Outcome). o.tries) e in omega (arith, z));
-    }
+    ap (λ (b : List ℕ). Ok (find_of b t)) is
+    ∙ ap (λ (k : ℕ). Ok (find_of (padded (chosen rows)) k)) (let z : t ≡ told (t + 0) = omega arith in z)
+    ∙ sym (ap (λ (o : Outcome). found_with o.found (t + o.tries)) (settle_none w last tied u (length rows) rows l))
 
-module _ (w : Setting) (last : List ℕ) (tied : Bool) (u : ℕ) (rows : List ℕ) (lawful : Lawful w.filter) (few : w.room.count ≤ 64) (left : LeftBy w rows) where
+module _ (w : Setting) (last : List ℕ) (tied : Bool) (u : ℕ) (rows : List ℕ) (lawful : Lawful w.filter) (left : LeftBy w rows) where
   abbrev Offer : ℕ → Bool
   Offer = offer_at last tied u rows
 
@@ -48,11 +61,10 @@ module _ (w : Setting) (last : List ℕ) (tied : Bool) (u : ℕ) (rows : List �
   abbrev Total : Outcome
   Total = settle_at w last tied u rows
 
-  pub going_start : (t rest : ℕ) (next : List ℕ) → u < length rows → ((b : ℕ) → bit rest b ≡ offer_at last tied u rows b) → rest < 2 ^ 64 → t < 4294967296 → length next ≡ 24
+  pub going_start : (t rest : ℕ) (next : List ℕ) → u < length rows → ((b : ℕ) → bit rest b ≡ offer_at last tied u rows b) → t < 4294967296 → length next ≡ 24
       → Going w last tied u rows t t rest next
-  going_start t rest next l bits fits small long = record {
-    turn = turn_start Total Offer Here w.room.count t rest (settle_some w last tied u (length rows) rows l) bits;
-    fits = fits;
+  going_start t rest next l bits small long = record {
+    pending = pending_start Total Offer Here w.room.count t rest (settle_some w last tied u (length rows) rows l) bits;
     long = long;
     small = omega arith;
   }
@@ -64,59 +76,50 @@ module _ (w : Setting) (last : List ℕ) (tied : Bool) (u : ℕ) (rows : List �
   under b o = left_under w rows lawful left u b (held b o)
 
   module _ (t₀ t rest : ℕ) (next : List ℕ) (going : Going w last tied u rows t₀ t rest next) where
-    module _ (some : 0 < rest) where
-      abbrev b : ℕ
-      b = count_trailing_zeros 64 rest
+    -- one turn: the bay b is tried, and the bays of rest' are left
+    module _ {b rest' : ℕ} (turn : Turn rest b rest') where
+      pub bay_held : bit (get_or rows u 0) b ≡ true
+      bay_held = held b (lowest_offered Total Offer Here w.room.count t₀ t rest under going.pending b rest' turn)
 
-      pub bay_held : bit (get_or rows u 0) (count_trailing_zeros 64 rest) ≡ true
-      bay_held = held b (lowest_offered Total Offer Here w.room.count t₀ t rest few under going.fits going.turn some)
-
-      module _ (part : List ℕ) (is : part ≡ after_try w u (count_trailing_zeros 64 rest) rows) (short : length rows ≤ 24) (t' : ℕ) (one : t' ≡ min (t + 1) 4294967295) where
-        rest_fits : bit_and rest (rest - 1) < 2 ^ 64
-        rest_fits = let a = and_le_l rest (rest - 1) in let f = going.fits in omega arith
-
+      module _ (part : List ℕ) (here : part ≡ after_try w u b rows) (short : length rows ≤ 24) (t' : ℕ) (one : t' ≡ min (t + 1) 4294967295) where
         next_long : length (part ++ post_of 0 (length rows - 0) next) ≡ 24
-        next_long = (let g = going.long in front_long next part (length rows) (as_long w last tied u b rows part is lawful) (omega arith)) ∙ going.long
+        next_long = (let g = going.long in front_long next part (length rows) (as_long w last tied u b rows part here lawful) (omega arith)) ∙ going.long
 
         -- the try left a row empty
-        pub going_fails : any_empty part ≡ true → Going w last tied u rows t₀ t' (bit_and rest (rest - 1)) (part ++ post_of 0 (length rows - 0) next)
+        pub going_fails : any_empty part ≡ true → Going w last tied u rows t₀ t' rest' (part ++ post_of 0 (length rows - 0) next)
         going_fails empty =
-            let f = try_fails w last tied u b rows part is empty t t' one in
+            let f = try_fails w last tied u b rows part here empty t t' one in
             record {
-              turn = turn_past Total Offer Here w.room.count t₀ t rest few under going.fits going.turn some t' f.0 f.1;
-              fits = rest_fits;
+              pending = pending_past Total Offer Here w.room.count t₀ t rest under going.pending b rest' turn t' f.0 f.1;
               long = next_long;
               small = omega arith;
             }
 
-        module _ (full : any_empty part ≡ false) (found : Option (List ℕ)) (d : ℕ)
-            (deep : Settles (settle_at w last (tied && eqb (count_trailing_zeros 64 rest) (get_or last u 0)) (u + 1) part) t' found d) where
+        module _ (full : any_empty part ≡ false) (r : Result Find ℕ) (deep : Settles (settle_at w last (tied && eqb b (get_or last u 0)) (u + 1) part) t' r) where
           abbrev Deeper : Outcome
           Deeper = settle_at w last (tied && eqb b (get_or last u 0)) (u + 1) part
 
-          some_is : is_some Deeper.found ≡ is_some found
-          some_is = sym (ap is_some deep.bays ∙ padded_some Deeper.found)
-
           -- the walk below found nothing
-          pub going_back : is_some found ≡ false → Going w last tied u rows t₀ d (bit_and rest (rest - 1)) (part ++ post_of 0 (length rows - 0) next)
-          going_back none =
-              let f = try_goes w last tied u b rows part is lawful full t t' d one deep.tries in
+          pub going_back : (made : ℕ) → r ≡ Err made → Going w last tied u rows t₀ made rest' (part ++ post_of 0 (length rows - 0) next)
+          going_back made is =
+              let n = none_found Deeper.found (t' + Deeper.tries) made (sym is ∙ deep) in
+              let f = try_goes w last tied u b rows part here lawful full t t' made one n.1 in
               record {
-                turn = turn_past Total Offer Here w.room.count t₀ t rest few under going.fits going.turn some d (f.0 ∙ none_of Deeper.found (some_is ∙ none)) f.1;
-                fits = rest_fits;
+                pending = pending_past Total Offer Here w.room.count t₀ t rest under going.pending b rest' turn made (f.0 ∙ n.0) f.1;
                 long = next_long;
-                small = (let e = deep.tries in omega arith);
+                small = (let e = n.1 in omega arith);
               }
 
           -- it found a placement
-          pub going_there : is_some found ≡ true → Settles (settle_at w last tied u rows) t₀ found d
-          going_there there =
-              let f = try_goes w last tied u b rows part is lawful full t t' d one deep.tries in
-              let a = turn_there Total Offer Here w.room.count t₀ t rest few under going.fits going.turn some d (ap is_some f.0 ∙ some_is ∙ there) f.1 in
-              record { bays = deep.bays ∙ ap padded_found (sym (a.0 ∙ f.0)); tries = a.1 }
+          pub going_there : (find : Find) → r ≡ Ok find → Settles (settle_at w last tied u rows) t₀ (Ok find)
+          going_there find is =
+              let there = some_found Deeper.found (t' + Deeper.tries) find (sym is ∙ deep) in
+              let f = try_goes w last tied u b rows part here lawful full t t' (told (t' + Deeper.tries)) one refl in
+              let a = pending_there Total Offer Here w.room.count t₀ t rest under going.pending b rest' turn (told (t' + Deeper.tries)) (ap is_some f.0 ∙ there) f.1 in
+              sym is ∙ deep ∙ told_same Deeper.found (t' + Deeper.tries) (t₀ + Total.tries) a.1 ∙ ap (λ (o : Option (List ℕ)). found_with o (t₀ + Total.tries)) (sym (a.0 ∙ f.0))
 
     -- every bay has failed
-    pub going_end : rest ≡ 0 → Settles (settle_at w last tied u rows) t₀ None t
+    pub going_end : rest ≡ 0 → Settles (settle_at w last tied u rows) t₀ (Err t)
     going_end z =
-        let e = turn_end Total Offer Here w.room.count t₀ t rest few under going.fits going.turn z (let s = going.small in omega arith) in
-        record { bays = sym (ap padded_found e.0); tries = e.1 }
+        let e = pending_end Total Offer Here w.room.count t₀ t rest under going.pending z (let s = going.small in omega arith) in
+        ap Err e.1 ∙ ap (λ (o : Option (List ℕ)). found_with o (t₀ + Total.tries)) (sym e.0)

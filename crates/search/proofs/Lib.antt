@@ -6,9 +6,9 @@ pub mod Placing
 pub mod Whole
 pub mod OfferedRow
 pub mod LowestBays
-pub mod Lowest
 pub mod Steps
 pub mod Going
+pub mod Ties
 pub mod Answered
 pub mod Counted
 pub mod Alike

@@ -123,6 +123,9 @@ module _ (w : Setting) (rows : List ℕ) (lawful : Lawful w.filter) (from : Left
       (lawful.as_many w.arrangement w.room w.strict from.before)
       (lawful.adds_none w.arrangement w.room w.strict from.before))
 
+  pub few_left : length rows ≤ 24
+  few_left = let shape = shape_of w.arrangement w.room rows left_shaped in omega (arith, shape.many, shape.few)
+
   pub left_under : (u b : ℕ) → bit (get_or rows u 0) b ≡ true → b < w.room.count
   left_under = (shape_of w.arrangement w.room rows left_shaped).under
 

@@ -18,18 +18,18 @@ passed : (bound : ℕ) (final : Bool) (b : ℕ) → ltb b (start_of bound final)
 passed bound true b = grind (arith, nat_tests)
 passed bound false b = grind (arith, nat_tests)
 
-module _ (row bound : ℕ) (final tied : Bool) (fits : row < 2 ^ 64) (is : tied ≡ true) where
+module _ (row bound : ℕ) (final : Bool) (fits : row < 2 ^ 64) where
   abbrev from : ℕ
   from = start_of bound final
 
-  offer_is : (b : ℕ) (x : Bool) → (bit row b ≡ true → x ≡ not (ltb b from)) → (bit row b && x) ≡ offered row tied bound final b
+  offer_is : (b : ℕ) (x : Bool) → (bit row b ≡ true → x ≡ not (ltb b from)) → (bit row b && x) ≡ offered row true bound final b
   offer_is b x h =
       elim (cases_Bool (bit row b)) [
-        | inl t ↦ ap (λ (y : Bool). bit row b && y) (h t ∙ ap not (passed bound final b ∙ ap (λ (y : Bool). y && (ltb b bound || eqb b bound && final)) (sym is)))
-        | inr f ↦ and_left (bit row b) x f ∙ sym (and_left (bit row b) (not (tied && (ltb b bound || eqb b bound && final))) f)
+        | inl t ↦ ap (λ (y : Bool). bit row b && y) (h t ∙ ap not (passed bound final b))
+        | inr f ↦ and_left (bit row b) x f ∙ sym (and_left (bit row b) (not (ltb b bound || eqb b bound && final)) f)
       ]
 
-  pub offers_some : bound + bool_byte final < 64 → (b : ℕ) → bit (bit_and row (18446744073709551615 - ((1 * 2 ^ (bound + bool_byte final)) % 18446744073709551616 - 1))) b ≡ offered row tied bound final b
+  pub offers_some : bound + bool_byte final < 64 → (b : ℕ) → bit (bit_and row (18446744073709551615 - ((1 * 2 ^ (bound + bool_byte final)) % 18446744073709551616 - 1))) b ≡ offered row true bound final b
   offers_some l b =
       let low : ℕ = (1 * 2 ^ from) % 18446744073709551616 - 1 in
       let one : (1 * 2 ^ from) % 18446744073709551616 ≡ 2 ^ from = one_shl from 64 l in
@@ -42,7 +42,7 @@ module _ (row bound : ℕ) (final tied : Bool) (fits : row < 2 ^ 64) (is : tied 
       (λ t. let lb : b < 64 = bit_below row 64 b fits t in
       bit_not 64 low b (omega arith) ∙ ap (λ (y : Bool). y && not (bit low b)) (lt-ltb b 64 lb) ∙ ap not lows)
 
-  pub offers_none : 64 ≤ bound + bool_byte final → (b : ℕ) → bit 0 b ≡ offered row tied bound final b
+  pub offers_none : 64 ≤ bound + bool_byte final → (b : ℕ) → bit 0 b ≡ offered row true bound final b
   offers_none l b =
       bit_none b ∙ sym (and_false (bit row b))
       ∙ offer_is b false (λ t. let lb : b < 64 = bit_below row 64 b fits t in sym (ap not (lt-ltb b from (omega arith))))

@@ -1,18 +1,15 @@
 -- The steps of the loop over the bays of one unit. Assumes nothing.
-use Rattle.std.proofs.Common.{◌≡◌, ℕ, zero, suc, ◌+◌, ◌-◌, ◌^◌, ◌<◌, ◌≤◌, min, Bool, true, false, not, ◌&&◌, eqb, leb, List, ◌++◌, length, get_or, is_some, Some, None, Option, sym, refl, ap, ◌∙◌, subst, inl, inr, arith}
-use lib.Bits.{bit_and, and_le_r}
-use lib.Count.{count_trailing_zeros}
+use Rattle.std.proofs.Common.{◌≡◌, ℕ, zero, suc, ◌+◌, ◌-◌, ◌<◌, ◌≤◌, min, Bool, true, false, not, ◌&&◌, eqb, leb, List, ◌++◌, length, get_or, is_some, Some, None, Option, sym, refl, ap, ◌∙◌, subst, inl, inr, arith}
 use borrow.Rule.Slice.PartMut.{post_of, same_len_mid}
 use Rattle.std.proofs.lemmas.List.{length-take-le}
 use Rattle.std.proofs.lemmas.Bool.{both_ways, le-leb, lt-leb, leb-true, eq-eqb, ne_eqb, cases_eq, cases_lt, cases_Bool, and_parts, and_right}
 use Rattle.std.proofs.lemmas.Bool.Decides.{nat_tests}
 use Rattle.graphs.specs.Rows.{bit}
-use Rattle.graphs.proofs.Bits.{bit_none, bit_lowest}
+use Rattle.graphs.proofs.Bits.{bit_none}
+use Rattle.graphs.proofs.Lowest.{Turn}
 use Rattle.filters.specs.Filter.{Lawful}
 use Rattle.search.specs.Walk.{Setting, Outcome, any_empty, narrowed, after_try, offered, nothing, counted, or_else, scan, tried, settle, chosen}
-use Rattle.search.specs.Found.{padded_found}
 use Rattle.search.proofs.Bools.{and_true}
-use Rattle.search.proofs.Lowest.{below_lowest, lowest_off}
 use Rattle.search.proofs.Narrowing.{narrow_long}
 
 -- ---- a scan
@@ -76,96 +73,89 @@ goes_there total rest here rest' t₀ t t' g e some is = go here.found refl
 
 -- ---- the row of the bays still to be tried
 
-pub rest_falls : (rest : ℕ) → (rest ≡ 0 → ⊥) → bit_and rest (rest - 1) < rest
-rest_falls rest some = let a = and_le_r rest (rest - 1) in let n : 0 < rest = omega (arith, some) in omega arith
-
 -- `rest` holds the offered bays from `at` on, and the scan from there is still to come
-pub record Turn (total : Outcome) (offer : ℕ → Bool) (here : ℕ → Outcome) (n t₀ t rest : ℕ) : Type 0 where
+pub record Pending (total : Outcome) (offer : ℕ → Bool) (here : ℕ → Outcome) (n t₀ t rest : ℕ) : Type 0 where
   pub at : ℕ
   pub within : at ≤ n
   pub bits : (c : ℕ) → bit rest c ≡ (leb at c && offer c)
   pub goes : Goes total (scan offer here at (n - at)) t₀ t
 
-pub turn_start : (total : Outcome) (offer : ℕ → Bool) (here : ℕ → Outcome) (n t rest : ℕ) → total ≡ scan offer here 0 n → ((c : ℕ) → bit rest c ≡ offer c) → Turn total offer here n t t rest
-turn_start total offer here n t rest e bits = record {
+pub pending_start : (total : Outcome) (offer : ℕ → Bool) (here : ℕ → Outcome) (n t rest : ℕ) → total ≡ scan offer here 0 n → ((c : ℕ) → bit rest c ≡ offer c) → Pending total offer here n t t rest
+pending_start total offer here n t rest e bits = record {
   at = 0;
   within = omega arith;
   bits = λ c. bits c ∙ sym (ap (λ (x : Bool). x && offer c) (le-leb 0 c (omega arith)));
   goes = subst (λ (o : Outcome). Goes total o t t) (e ∙ ap (scan offer here 0) (let z : n ≡ n - 0 = omega arith in z)) (record { found = refl; tries = refl });
 }
 
-module _ (total : Outcome) (offer : ℕ → Bool) (here : ℕ → Outcome) (n t₀ t rest : ℕ) (few : n ≤ 64) (under : (c : ℕ) → offer c ≡ true → c < n)
-    (fits : rest < 2 ^ 64) (turn : Turn total offer here n t₀ t rest) where
-  module _ (some : 0 < rest) where
-    abbrev lowest : ℕ
-    lowest = count_trailing_zeros 64 rest
+module _ (total : Outcome) (offer : ℕ → Bool) (here : ℕ → Outcome) (n t₀ t rest : ℕ) (under : (c : ℕ) → offer c ≡ true → c < n)
+    (pending : Pending total offer here n t₀ t rest) where
+  -- b is the lowest bay of them, and the others are in rest'
+  module _ (b rest' : ℕ) (turn : Turn rest b rest') where
+    both : (leb pending.at b ≡ true) × (offer b ≡ true)
+    both = and_parts (leb pending.at b) (offer b) (sym (pending.bits b) ∙ turn.held)
 
-    both : (leb turn.at lowest ≡ true) × (offer lowest ≡ true)
-    both = and_parts (leb turn.at lowest) (offer lowest) (sym (turn.bits lowest) ∙ bit_lowest 64 rest some fits)
-
-    pub lowest_offered : offer (count_trailing_zeros 64 rest) ≡ true
+    pub lowest_offered : offer b ≡ true
     lowest_offered = both.1
 
-    pub lowest_under : count_trailing_zeros 64 rest < n
-    lowest_under = under lowest lowest_offered
+    lowest_under : b < n
+    lowest_under = under b lowest_offered
 
-    skipped : scan offer here turn.at (n - turn.at) ≡ scan offer here lowest (n - lowest)
+    skipped : scan offer here pending.at (n - pending.at) ≡ scan offer here b (n - b)
     skipped =
-        let low : turn.at ≤ lowest = leb-true turn.at lowest both.0 in
+        let low : pending.at ≤ b = leb-true pending.at b both.0 in
         let u = lowest_under in
-        scan_skip offer here n (lowest - turn.at) turn.at (omega arith)
+        scan_skip offer here n (b - pending.at) pending.at (omega arith)
         (λ c lo hi. elim (cases_Bool (offer c)) [
           | inr f ↦ f
-          | inl o ↦ absurd (both_ways _ (below_lowest 64 rest c (omega arith)) (turn.bits c ∙ ap (λ (x : Bool). x && offer c) (le-leb turn.at c lo) ∙ o))
+          | inl o ↦ absurd (both_ways _ (turn.none_before c (omega arith)) (pending.bits c ∙ ap (λ (x : Bool). x && offer c) (le-leb pending.at c lo) ∙ o))
         ])
-        ∙ ap (λ (x : ℕ). scan offer here x (n - x)) (let z : turn.at + (lowest - turn.at) ≡ lowest = omega arith in z)
+        ∙ ap (λ (x : ℕ). scan offer here x (n - x)) (let z : pending.at + (b - pending.at) ≡ b = omega arith in z)
 
-    ahead : scan offer here turn.at (n - turn.at) ≡ or_else (here lowest).found (here lowest).tries (scan offer here (lowest + 1) (n - (lowest + 1)))
-    ahead = skipped ∙ scan_try offer here n lowest lowest_under lowest_offered
+    ahead : scan offer here pending.at (n - pending.at) ≡ or_else (here b).found (here b).tries (scan offer here (b + 1) (n - (b + 1)))
+    ahead = skipped ∙ scan_try offer here n b lowest_under lowest_offered
 
-    bits_after : (c : ℕ) → bit (bit_and rest (rest - 1)) c ≡ (leb (lowest + 1) c && offer c)
+    bits_after : (c : ℕ) → bit rest' c ≡ (leb (b + 1) c && offer c)
     bits_after c =
-        lowest_off 64 rest some fits c
-        ∙ elim (cases_lt lowest c) [
-          | inl l ↦ ap (λ (x : Bool). bit rest c && not x) (ne_eqb c lowest (λ z. omega arith)) ∙ and_true (bit rest c) ∙ turn.bits c
-              ∙ ap (λ (x : Bool). x && offer c) (le-leb turn.at c (let k = leb-true turn.at lowest both.0 in omega arith) ∙ sym (le-leb (lowest + 1) c (omega arith)))
-          | inr l ↦ off c l ∙ sym (ap (λ (x : Bool). x && offer c) (lt-leb (lowest + 1) c (omega arith)))
+        turn.but c
+        ∙ elim (cases_lt b c) [
+          | inl l ↦ ap (λ (x : Bool). bit rest c && not x) (ne_eqb c b (λ z. omega arith)) ∙ and_true (bit rest c) ∙ pending.bits c
+              ∙ ap (λ (x : Bool). x && offer c) (le-leb pending.at c (let k = leb-true pending.at b both.0 in omega arith) ∙ sym (le-leb (b + 1) c (omega arith)))
+          | inr l ↦ off c l ∙ sym (ap (λ (x : Bool). x && offer c) (lt-leb (b + 1) c (omega arith)))
         ]
       where
-        off : (c : ℕ) → c ≤ lowest → (bit rest c && not (eqb c lowest)) ≡ false
-        off c l = elim (cases_eq c lowest) [
-          | inl z ↦ and_right (bit rest c) (not (eqb c lowest)) (ap not (eq-eqb c lowest z))
-          | inr ne ↦ ap (λ (x : Bool). x && not (eqb c lowest)) (below_lowest 64 rest c (omega arith))
+        off : (c : ℕ) → c ≤ b → (bit rest c && not (eqb c b)) ≡ false
+        off c l = elim (cases_eq c b) [
+          | inl z ↦ and_right (bit rest c) (not (eqb c b)) (ap not (eq-eqb c b z))
+          | inr ne ↦ ap (λ (x : Bool). x && not (eqb c b)) (turn.none_before c (omega arith))
         ]
 
     -- the lowest bay's try finds nothing
-    pub turn_past : (t' : ℕ) → (here (count_trailing_zeros 64 rest)).found ≡ None → t' ≡ min (t + (here (count_trailing_zeros 64 rest)).tries) 4294967295
-        → Turn total offer here n t₀ t' (bit_and rest (rest - 1))
-    turn_past t' none is = record {
-      at = lowest + 1;
+    pub pending_past : (t' : ℕ) → (here b).found ≡ None → t' ≡ min (t + (here b).tries) 4294967295 → Pending total offer here n t₀ t' rest'
+    pending_past t' none is = record {
+      at = b + 1;
       within = (let u = lowest_under in omega arith);
       bits = bits_after;
-      goes = goes_past total (scan offer here turn.at (n - turn.at)) (here lowest) (scan offer here (lowest + 1) (n - (lowest + 1))) t₀ t t' turn.goes ahead none is;
+      goes = goes_past total (scan offer here pending.at (n - pending.at)) (here b) (scan offer here (b + 1) (n - (b + 1))) t₀ t t' pending.goes ahead none is;
     }
 
     -- it finds a placement
-    pub turn_there : (t' : ℕ) → is_some (here (count_trailing_zeros 64 rest)).found ≡ true → t' ≡ min (t + (here (count_trailing_zeros 64 rest)).tries) 4294967295
-        → (total.found ≡ (here (count_trailing_zeros 64 rest)).found) × (t' ≡ min (t₀ + total.tries) 4294967295)
-    turn_there t' found is = goes_there total (scan offer here turn.at (n - turn.at)) (here lowest) (scan offer here (lowest + 1) (n - (lowest + 1))) t₀ t t' turn.goes ahead found is
+    pub pending_there : (t' : ℕ) → is_some (here b).found ≡ true → t' ≡ min (t + (here b).tries) 4294967295 → (total.found ≡ (here b).found) × (t' ≡ min (t₀ + total.tries) 4294967295)
+    pending_there t' found is = goes_there total (scan offer here pending.at (n - pending.at)) (here b) (scan offer here (b + 1) (n - (b + 1))) t₀ t t' pending.goes ahead found is
 
   -- no bay is left
-  pub turn_end : rest ≡ 0 → t < 4294967296 → (total.found ≡ None) × (t ≡ min (t₀ + total.tries) 4294967295)
+  pub pending_end : rest ≡ 0 → t < 4294967296 → (total.found ≡ None) × (t ≡ min (t₀ + total.tries) 4294967295)
   unfolding scan
-  turn_end z small =
-      let e : scan offer here turn.at (n - turn.at) ≡ nothing 0 =
-      scan_skip offer here n (n - turn.at) turn.at (let k = turn.within in omega arith)
+  pending_end z small =
+      let e : scan offer here pending.at (n - pending.at) ≡ nothing 0 =
+      scan_skip offer here n (n - pending.at) pending.at (let k = pending.within in omega arith)
       (λ c lo hi. elim (cases_Bool (offer c)) [
         | inr f ↦ f
-        | inl o ↦ absurd (both_ways _ (ap (λ (x : ℕ). bit x c) z ∙ bit_none c) (turn.bits c ∙ ap (λ (x : Bool). x && offer c) (le-leb turn.at c lo) ∙ o))
+        | inl o ↦ absurd (both_ways _ (ap (λ (x : ℕ). bit x c) z ∙ bit_none c) (pending.bits c ∙ ap (λ (x : Bool). x && offer c) (le-leb pending.at c lo) ∙ o))
       ])
-      ∙ ap (scan offer here (turn.at + (n - turn.at))) (let y : n - (turn.at + (n - turn.at)) ≡ 0 = omega arith in y) in (
-        turn.goes.found ∙ ap (λ (o : Outcome). o.found) e,
-        (let s : (scan offer here turn.at (n - turn.at)).tries ≡ 0 = ap (λ (o : Outcome). o.tries) e in let h = turn.goes.tries in omega arith),
+      ∙ ap (scan offer here (pending.at + (n - pending.at))) (let y : n - (pending.at + (n - pending.at)) ≡ 0 = omega arith in y) in (
+        pending.goes.found ∙ ap (λ (o : Outcome). o.found) e,
+        (let s : (scan offer here pending.at (n - pending.at)).tries ≡ 0 = ap (λ (o : Outcome). o.tries) e in let h = pending.goes.tries in omega arith),
       )
 
 -- ---- a unit's walk
@@ -224,14 +214,6 @@ module _ (w : Setting) (last : List ℕ) (tied : Bool) (u b : ℕ) (rows part : 
       (ap (λ (o : Outcome). o.found) e, (let h : Here.tries ≡ 1 + Deeper.tries = ap (λ (o : Outcome). o.tries) e in omega arith))
 
 -- ---- what the code holds of it
-
-pub padded_some : (o : Option (List ℕ)) → is_some (padded_found o) ≡ is_some o
-padded_some (Some w) = refl
-padded_some None = refl
-
-pub none_of : (o : Option (List ℕ)) → is_some o ≡ false → o ≡ None
-none_of None e = refl
-none_of (Some p) e = absurd (let y : ◌≡◌ {A = ℕ} 0 1 = cc in omega arith)
 
 -- a write to the front of the array leaves its length
 pub front_long : (xs ys : List ℕ) (k : ℕ) → k ≡ length ys → k ≤ length xs → length (ys ++ post_of 0 (k - 0) xs) ≡ length xs

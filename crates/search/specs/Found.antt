@@ -18,10 +18,10 @@ told n = min n 4294967295
 abbrev pub padded : List ℕ → List ℕ
 padded w = w ++ replicate (24 - length w) 0
 
--- the same of what was found
-abbrev pub padded_found : Option (List ℕ) → Option (List ℕ)
-padded_found (Some w) = Some (padded w)
-padded_found None = None
+-- what a part of the walk comes to: a find, or none after so many tries
+abbrev pub found_with : Option (List ℕ) → ℕ → Result Find ℕ
+found_with (Some w) tries = Ok (record { bays = padded w; tries = told tries })
+found_with None tries = Err (told tries)
 
 -- what is answered of a find, or of none, after so many tries
 abbrev pub answer_with : Option (List ℕ) → ℕ → Result Find SearchError

@@ -1,5 +1,5 @@
 -- The walk that a search takes over units and bays, and the tries that it makes. Assumes nothing.
-use Rattle.std.specs.Prelude.{◌≡◌, ℕ, zero, suc, ◌+◌, ◌^◌, Bool, true, false, cond, not, ◌&&◌, ◌||◌, List, [], map, length, Some, None, Option, ◌==◌, bit_and, nat_lt, slice_index}
+use Rattle.std.specs.Prelude.{◌≡◌, ℕ, zero, suc, ◌+◌, ◌^◌, Bool, true, false, cond, not, ◌&&◌, ◌||◌, List, [], map, length, Some, None, Option, is_some, unwrap_or, ◌==◌, bit_and, nat_lt, slice_index}
 use Rattle.std.specs.Int.Count.{count_trailing_zeros}
 use Rattle.std.specs.List.{range_with_len}
 use Rattle.graphs.specs.Rows.{bit, row_of}
@@ -85,6 +85,10 @@ settle w last (suc later) tied u rows =
     (offered (slice_index rows u) tied (slice_index last u) (later == 0))
     (λ b. tried (settle w last later (tied && b == slice_index last u) (suc u)) (after_try w u b rows))
     0 w.room.count
+
+-- the same with a last answer only while all earlier bays equal its bays
+abbrev pub settle_after : Setting → Option (List ℕ) → ℕ → ℕ → List ℕ → Outcome
+settle_after w last later u rows = settle w (unwrap_or last []) later (is_some last) u rows
 
 -- The whole search within the rows: the filter is applied first. Tied: the walk goes on after the last answer.
 unfoldable pub walk_from : Setting → List ℕ → Bool → List ℕ → Outcome

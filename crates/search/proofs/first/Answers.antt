@@ -1,12 +1,12 @@
-use Rattle.std.proofs.Common.{◌≡◌, true, false, [], length, replicate, sym, ap, ◌∙◌}
+use Rattle.std.proofs.Common.{◌≡◌, true, false, None, length, sym, ◌∙◌}
 use Rattle.std.proofs.lemmas.Bool.{both_ways}
 use Rattle.filters.specs.Filter.{shaped}
 use Rattle.filters.specs.Shapes.{shape_of}
-use Rattle.search.specs.Walk.{Setting, Outcome, setting, walk_from}
-use Rattle.search.specs.Found.{Sought, answer_with}
+use Rattle.search.specs.Walk.{Setting, Outcome, setting, walk}
+use Rattle.search.specs.Found.{Sought}
 use Rattle.placements.proofs.Morphisms.{open_is_mono, strict_is_induced}
 use Rattle.search.proofs.Alike.{filters_alike}
-use Rattle.search.proofs.Answered.{accepted, declined, searched, walk_unread}
+use Rattle.search.proofs.Answered.{accepted, declined, searched}
 use Rattle.search.proofs.Counted.{counts_tries}
 use Rattle.search.proofs.Whole.{finds_first}
 use Rattle.search.proofs.first.Goals as goal
@@ -16,7 +16,7 @@ returns-then-not-well_shaped g c =
     let w : Setting = setting (g.A.Source.graph c.args.problem.now.arrangement.now) (g.R.Source.graph c.args.problem.now.room.now) c.args.problem.now.strict (g.F.Filter.left c.args.filter.now) in
     let ill : shaped w.arrangement w.room c.args.rows.now ≡ false = sym c.well_shaped.ensures ∙ c.if-not-well_shaped.true in
     record {
-      answer = declined (shaped w.arrangement w.room c.args.rows.now) (walk_from w [] false c.args.rows.now) ill;
+      answer = declined (shaped w.arrangement w.room c.args.rows.now) (walk w None c.args.rows.now) ill;
       first = λ ok. both_ways _ ill ok;
       theorem = finds_first;
       counted = counts_tries;
@@ -30,12 +30,10 @@ returns g c =
     let w : Setting = setting (g.A.Source.graph c.args.problem.now.arrangement.now) (g.R.Source.graph c.args.problem.now.room.now) c.args.problem.now.strict (g.F.Filter.left c.args.filter.now) in
     let rows = c.args.rows.now in
     let ok : shaped w.arrangement w.room rows ≡ true = sym c.well_shaped.ensures ∙ c.if-not-well_shaped.false in
-    let o : Outcome = walk_from w [] false rows in
-    let is : c.search_rows.result ≡ answer_with o.found o.tries =
-    c.search_rows.ensures ∙ ap (λ (x : Outcome). answer_with x.found x.tries) (walk_unread w (replicate 24 0) [] rows) in
+    let o : Outcome = walk w None rows in
     record {
-      answer = accepted (shaped w.arrangement w.room rows) o c.search_rows.result ok is;
-      first = λ _. searched (Sought w.arrangement w.room w.strict rows) (length rows) o c.search_rows.result is
+      answer = accepted (shaped w.arrangement w.room rows) o c.search_rows.result ok c.search_rows.ensures;
+      first = λ _. searched (Sought w.arrangement w.room w.strict rows) (length rows) o c.search_rows.result c.search_rows.ensures
           (λ q h. h.0.whole ∙ sym (shape_of w.arrangement w.room rows ok).many)
           (finds_first w rows (g.met.F.Filter.lawful c.args.filter.now) (g.A.Source.sound c.args.problem.now.arrangement.now) (g.R.Source.sound c.args.problem.now.room.now) ok);
       theorem = finds_first;
