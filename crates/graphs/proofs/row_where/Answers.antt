@@ -1,4 +1,4 @@
-use Rattle.std.proofs.Common.{◌≡◌, ℕ, ◌<◌, ◌&&◌, ltb, sym, ap, ◌∙◌, arith}
+use Rattle.std.proofs.Common.{◌≡◌, ℕ, ◌&&◌, ltb, sym, ap, ◌∙◌, arith}
 use Rattle.graphs.specs.Rows.{bit}
 use Rattle.graphs.proofs.Rows.{row_is, upto_none, upto_set, upto_pass}
 use Rattle.graphs.proofs.row_where.Goals as goal
