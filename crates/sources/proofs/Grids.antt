@@ -1,5 +1,5 @@
 -- A wall's columns are its rows, and its rows written out. Assumes nothing.
-use Rattle.std.proofs.Common.{◌≡◌, ℕ, ◌*◌, ◌≤◌, Bool, ltb, List, sym, ap, ◌∙◌, arith}
+use Rattle.std.proofs.Common.{◌≡◌, ℕ, ◌≤◌, Bool, ltb, sym, ap, ◌∙◌}
 use mathlib.Core.Path.{fun_ext}
 use Rattle.std.proofs.lemmas.Bool.{and_right}
 use Rattle.graphs.specs.Rows.{row_of}
@@ -7,8 +7,6 @@ use Rattle.graphs.specs.WallGrid.{wall_joined}
 use Rattle.graphs.proofs.Bits.{bit_none}
 use Rattle.graphs.proofs.Rows.{row_is}
 use Rattle.graphs.proofs.Walls.{wall_sym, wall_out}
-use Rattle.sources.specs.Drawn.{Drawn}
-use Rattle.sources.proofs.Drawing.{Drawing, all_drawn}
 
 pub wall_column : (w n b : ℕ) → row_of n (wall_joined w n b) ≡ row_of n (λ a. wall_joined w n a b)
 wall_column w n b = ap (λ (p : ℕ → Bool). row_of n p) (fun_ext (λ a. wall_sym w n b a))
@@ -16,7 +14,3 @@ wall_column w n b = ap (λ (p : ℕ → Bool). row_of n p) (fun_ext (λ a. wall_
 -- a node past the count has no neighbours
 pub past_count : (w n a : ℕ) → n ≤ a → 0 ≡ row_of n (wall_joined w n a)
 past_count w n a le = row_is n 0 (wall_joined w n a) (λ k. bit_none k ∙ sym (and_right (ltb k n) (wall_joined w n a k) (wall_out w n a k le)))
-
--- a wall's rows below i are written out, so all are
-pub drawing_all : (w h i : ℕ) (rows : List ℕ) → w * h ≤ 64 → 64 ≤ i → Drawing (λ a. row_of (w * h) (wall_joined w (w * h) a)) i rows → Drawn w h rows
-drawing_all w h i rows few le d = all_drawn (λ a. row_of (w * h) (wall_joined w (w * h) a)) i rows (λ a ge. past_count w (w * h) a (omega arith)) le d

@@ -1,10 +1,6 @@
 -- A row's nodes taken from the lowest on, each tested. Assumes nothing.
-use Rattle.std.proofs.Common.{◌≡◌, ℕ, zero, suc, ◌-◌, ◌/◌, ◌%◌, ◌^◌, ◌<◌, Bool, true, false, not, ◌&&◌, eqb, ◌⊎◌, List, get_or, sym, refl, ap, ◌∙◌, subst, inl, inr, arith}
-use native.Mathlib.Nat.{pow-succ'}
-use lib.Bits.{bit_and, and_le_l}
-use lib.Count.{count_trailing_zeros, under}
-use Rattle.std.proofs.lemmas.Bool.{both_ways, ne_eqb, cases_eq, and_parts, and_from, and_left, not_from_false}
-use Rattle.std.proofs.lemmas.Bool.Decides.{nat_tests}
+use Rattle.std.proofs.Common.{◌≡◌, ℕ, true, not, eqb, ◌⊎◌, List, get_or, sym, ap, ◌∙◌, subst, inl, inr}
+use Rattle.std.proofs.lemmas.Bool.{both_ways, ne_eqb, cases_eq, and_parts, and_from, not_from_false}
 use Rattle.graphs.specs.Rows.{bit}
 use Rattle.graphs.proofs.Bits.{bit_none}
 use Rattle.graphs.proofs.Lowest.{Turn}

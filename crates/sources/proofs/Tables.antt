@@ -1,12 +1,11 @@
 -- A table is lawful exactly where each of its set bits is, and a column is a row. Assumes nothing.
-use Rattle.std.proofs.Common.{◌≡◌, ℕ, zero, suc, ◌<◌, ◌≤◌, Bool, true, false, List, [], ◌∷◌, length, get_or, replicate, sym, refl, ap, ◌∙◌, inl, inr, arith}
+use Rattle.std.proofs.Common.{◌≡◌, ℕ, zero, suc, ◌<◌, ◌≤◌, Bool, true, false, List, [], ◌∷◌, length, get_or, sym, refl, ap, ◌∙◌, inl, inr, arith}
 use mathlib.Core.Path.{fun_ext}
 use Rattle.std.proofs.lemmas.Bool.{both_ways, cases_Bool}
 use Rattle.graphs.specs.Rows.{bit, row_of}
 use Rattle.graphs.specs.JointTable.{RowLawful, TableLawful}
 use Rattle.graphs.proofs.Bits.{bit_none, bit_below, bits_below}
 use Rattle.graphs.proofs.JointTables.{table_irr, table_sym, table_row}
-use Rattle.sources.specs.Drawn.{Written}
 use Rattle.sources.specs.Pairs.{PairsLawful}
 
 bool_ext : (s t : Bool) → (s ≡ true → t ≡ true) → (t ≡ true → s ≡ true) → s ≡ t
@@ -45,37 +44,23 @@ pub table_column : (rows : List ℕ) (b : ℕ) → length rows ≤ 64 → get_or
 table_column rows b l h y = table_row rows b l h y ∙ ap (λ (p : ℕ → Bool). row_of (length rows) p) (fun_ext (λ a. y b a))
 
 -- what a table that is taken keeps
-pub record Kept (rows drawn : List ℕ) : Type 0 where
+pub record Kept (rows : List ℕ) : Type 0 where
   pub some : 1 ≤ length rows
   pub few : length rows ≤ 64
   pub irreflexive : (a : ℕ) → bit (get_or rows a 0) a ≡ false
   pub both : (a b : ℕ) → bit (get_or rows a 0) b ≡ bit (get_or rows b 0) a
-  pub written : Written rows drawn
 
-pub kept_lawful : (rows : List ℕ) (n : ℕ) (drawn : List ℕ) → TableLawful rows n → Written rows drawn → Kept rows drawn
-kept_lawful rows n drawn v d = record {
+pub kept_lawful : (rows : List ℕ) (n : ℕ) → TableLawful rows n → Kept rows
+kept_lawful rows n v = record {
   some = omega (arith, v.square, v.some);
   few = omega (arith, v.square, v.few);
   irreflexive = table_irr rows n v;
   both = table_sym rows n v;
-  written = d;
 }
-
--- empty rows have nothing but empty rows
-empty_rows : (n a : ℕ) → ◌≡◌ {A = ℕ} (get_or (replicate n 0) a 0) 0
-empty_rows zero a = refl
-empty_rows (suc n) zero = refl
-empty_rows (suc n) (suc a) = empty_rows n a
 
 -- the one row of one node without joints
-pub kept_lone : Kept (0 ∷ []) (replicate 64 0)
-kept_lone = record {
-  some = omega arith;
-  few = omega arith;
-  irreflexive = λ a. none a a;
-  both = λ a b. none a b ∙ sym (none b a);
-  written = λ a. empty_rows 64 a ∙ sym (empty_rows 1 a);
-}
+pub kept_lone : Kept (0 ∷ [])
+kept_lone = record { some = omega arith; few = omega arith; irreflexive = λ a. none a a; both = λ a b. none a b ∙ sym (none b a) }
   where
     none : (a b : ℕ) → bit (get_or (0 ∷ []) a 0) b ≡ false
     none zero b = bit_none b

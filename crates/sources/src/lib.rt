@@ -1,6 +1,7 @@
 // The two sources of joints: a table over lent rows, and a wall grid.
 #![tactic(auto)]
 
+mod drawn;
 mod fault;
 mod table;
 #[cfg(test)]

@@ -8,10 +8,11 @@ ghost use Rattle.sources.specs.Pairs.{PairLawful, PairsLawful};
 ghost use Rattle.sources.specs.Taking.{Taken};
 ghost use Rattle.sources.specs.Drawn.{Written};
 
+use crate::drawn::row_at;
 use crate::fault::JointFault;
 use graphs::{Source, holds, nodes};
+use std::array;
 
-// The rows are written out once, so that a search reads a node's row with no look at how many there are.
 #[derive(Clone, Copy)]
 pub struct JointTable<'a> {
     rows: &'a [u64],
@@ -38,25 +39,16 @@ impl<'a> JointTable<'a> {
 
     // What the look-over declines is taken as one node without joints.
     pub fn new(rows: &'a [u64], columns: usize) -> JointTable<'a>
-        ensures { Taken (TableLawful rows.now columns) (table_graph rows.now) (table_graph result.rows.now) }
+        ensures { Taken (TableLawful rows.now columns) (table_graph rows.now) (⟦<JointTable<'a> as Source>⟧.graph result) }
     {
-        match JointTable::look_over(rows, columns) {
-            Ok(()) => JointTable {
-                rows,
-                drawn: written_out(rows),
-            },
-            Err(_) => JointTable {
-                rows: &[0],
-                drawn: [0; 64],
-            },
+        let rows = match JointTable::look_over(rows, columns) {
+            Ok(()) => rows,
+            Err(_) => &[0],
+        };
+        JointTable {
+            rows,
+            drawn: written_out(rows),
         }
-    }
-
-    // The nodes that `a` is joined to.
-    fn row_at(&self, a: usize) -> u64
-        ensures { result ≡ slice_index self.now.rows.now a }
-    {
-        if a < 64 { self.drawn[a] } else { 0 }
     }
 }
 
@@ -72,24 +64,17 @@ impl<'a> Source for JointTable<'a> {
     }
 
     fn joined(&self, a: usize, b: usize) -> bool {
-        holds(self.row_at(a), b)
+        holds(row_at(&self.drawn, a), b)
     }
 
     fn row(&self, a: usize) -> u64 {
-        self.row_at(a)
+        row_at(&self.drawn, a)
     }
 
     // Joints hold both ways.
     fn column(&self, b: usize) -> u64 {
-        self.row_at(b)
+        row_at(&self.drawn, b)
     }
-}
-
-// The row at `a`, empty past the last one.
-fn row_of(rows: &[u64], a: usize) -> u64
-    ensures { result ≡ slice_index rows.now a }
-{
-    if a < rows.len() { rows[a] } else { 0 }
 }
 
 // The rows, and empty ones behind.
@@ -97,11 +82,7 @@ fn written_out(rows: &[u64]) -> [u64; 64]
     requires { length rows.now ≤ 64 }
     ensures { Written rows.now result }
 {
-    let mut drawn = [0; 64];
-    for a in 0..64 {
-        drawn[a] = row_of(rows, a);
-    }
-    drawn
+    array::from_fn(|a| row_at(rows, a))
 }
 
 // Every joint of the node `a` in turn: a one-sided one is met at the bit that is set.

@@ -7,20 +7,59 @@ ghost use Rattle.sources.specs.Drawn.{Drawn};
 ghost use Rattle.sources.specs.Faults.{LookedOver};
 ghost use Rattle.sources.specs.Taking.{Taken};
 
+use crate::drawn::row_at;
 use crate::fault::JointFault;
 use graphs::Source;
+use std::array;
+
+// How many columns and levels a lawful wall has.
+#[derive(Clone, Copy)]
+struct Extent {
+    columns: usize,
+    levels: usize,
+    ghost wide: { 1 ≤ columns },
+    ghost high: { 1 ≤ levels },
+    ghost few: { columns * levels ≤ 64 },
+}
+
+impl Extent {
+    // How many nodes the wall has.
+    fn count(&self) -> usize
+        ensures { result ≡ self.now.columns * self.now.levels }
+    {
+        self.columns * self.levels
+    }
+
+    // The nodes that `a` is joined to.
+    fn neighbours(&self, a: usize) -> u64
+        ensures { result ≡ row_of (self.now.columns * self.now.levels) (wall_joined self.now.columns (self.now.columns * self.now.levels) a) }
+    {
+        let count = self.count();
+        if a >= count {
+            return 0;
+        }
+        let column = a % self.columns;
+        let left = with_node(0, column > 0, a.saturating_sub(1));
+        let level = with_node(left, column + 1 < self.columns, a + 1);
+        let below = with_node(level, a >= self.columns, a.saturating_sub(self.columns));
+        with_node(below, a + self.columns < count, a + self.columns)
+    }
+
+    // The rows of all nodes.
+    fn rows(&self) -> [u64; 64]
+        ensures { Drawn self.now.columns self.now.levels result }
+    {
+        array::from_fn(|a| self.neighbours(a))
+    }
+}
 
 // Node `level * columns + column` is joined to its neighbours on its level and to those directly above and below. The rows are
 // worked out once, so that a search does not divide for each node that it asks about.
 #[derive(Clone, Copy)]
 pub struct WallGrid {
-    columns: usize,
-    levels: usize,
+    extent: Extent,
     rows: [u64; 64],
-    ghost wide: { 1 ≤ columns },
-    ghost high: { 1 ≤ levels },
-    ghost few: { columns * levels ≤ 64 },
-    ghost drawn: { Drawn columns levels rows },
+    ghost drawn: { Drawn extent.columns extent.levels rows },
 }
 
 impl WallGrid {
@@ -35,98 +74,53 @@ impl WallGrid {
 
     // What the look-over declines is taken as a wall of one node.
     pub fn new(columns: usize, levels: usize) -> WallGrid
-        ensures { Taken (WallLawful columns levels) (wall_graph columns levels) (wall_graph result.columns result.levels) }
+        ensures { Taken (WallLawful columns levels) (wall_graph columns levels) (⟦<WallGrid as Source>⟧.graph result) }
     {
-        match WallGrid::look_over(columns, levels) {
-            Ok(()) => WallGrid::lawful(columns, levels),
-            Err(_) => WallGrid::lawful(1, 1),
-        }
-    }
-
-    fn lawful(columns: usize, levels: usize) -> WallGrid
-        requires wide { 1 ≤ columns }
-        requires high { 1 ≤ levels }
-        requires few { columns * levels ≤ 64 }
-        ensures { (result.columns ≡ columns) × (result.levels ≡ levels) }
-    {
-        let rows = drawn_rows(columns, levels);
+        let extent = match WallGrid::look_over(columns, levels) {
+            Ok(()) => Extent { columns, levels },
+            Err(_) => Extent {
+                columns: 1,
+                levels: 1,
+            },
+        };
         WallGrid {
-            columns,
-            levels,
-            rows,
+            extent,
+            rows: extent.rows(),
         }
     }
-
-    // The nodes that `a` is joined to.
-    fn row_at(&self, a: usize) -> u64
-        ensures { result ≡ row_of (self.now.columns * self.now.levels) (wall_joined self.now.columns (self.now.columns * self.now.levels) a) }
-    {
-        if a < 64 { self.rows[a] } else { 0 }
-    }
-}
-
-// The nodes that `a` is joined to.
-fn neighbours(columns: usize, levels: usize, a: usize) -> u64
-    requires wide { 1 ≤ columns }
-    requires high { 1 ≤ levels }
-    requires few { columns * levels ≤ 64 }
-    ensures { result ≡ row_of (columns * levels) (wall_joined columns (columns * levels) a) }
-{
-    let count = columns * levels;
-    if a >= count {
-        return 0;
-    }
-    let column = a % columns;
-    let left = with_node(0, column > 0, a.saturating_sub(1));
-    let level = with_node(left, column + 1 < columns, a + 1);
-    let below = with_node(level, a >= columns, a.saturating_sub(columns));
-    with_node(below, a + columns < count, a + columns)
-}
-
-// The rows of all nodes.
-fn drawn_rows(columns: usize, levels: usize) -> [u64; 64]
-    requires wide { 1 ≤ columns }
-    requires high { 1 ≤ levels }
-    requires few { columns * levels ≤ 64 }
-    ensures { Drawn columns levels result }
-{
-    let mut rows = [0; 64];
-    for a in 0..64 {
-        rows[a] = neighbours(columns, levels, a);
-    }
-    rows
 }
 
 impl Source for WallGrid {
-    ghost graph = { λ s. wall_graph s.columns s.levels };
+    ghost graph = { λ s. wall_graph s.extent.columns s.extent.levels };
 
-    ghost sound = { λ s. wall_sound s.columns s.levels s.wide s.high s.few };
+    ghost sound = { λ s. wall_sound s.extent.columns s.extent.levels s.extent.wide s.extent.high s.extent.few };
 
-    ghost symmetric = { λ s. wall_symmetric s.columns s.levels };
+    ghost symmetric = { λ s. wall_symmetric s.extent.columns s.extent.levels };
 
     fn count(&self) -> usize {
-        self.columns * self.levels
+        self.extent.count()
     }
 
     fn joined(&self, a: usize, b: usize) -> bool {
-        let count = self.columns * self.levels;
+        let count = self.extent.count();
+        let columns = self.extent.columns;
         if a >= count || b >= count {
             return false;
         }
-        if a / self.columns == b / self.columns {
+        if a / columns == b / columns {
             (a + 1 == b) | (b + 1 == a)
         } else {
-            (a + self.columns == b) | (b + self.columns == a)
+            (a + columns == b) | (b + columns == a)
         }
     }
 
     fn row(&self, a: usize) -> u64 {
-        self.row_at(a)
+        row_at(&self.rows, a)
     }
 
     // Joints hold both ways.
     fn column(&self, b: usize) -> u64 {
-        self.row_at(b)
+        row_at(&self.rows, b)
     }
 }
 

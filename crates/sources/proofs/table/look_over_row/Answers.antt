@@ -1,4 +1,3 @@
-use Rattle.std.proofs.Common.{arith}
 use Rattle.std.proofs.lemmas.Result.{err_from_is_err_and}
 use Rattle.graphs.proofs.Lowest.{turn, no_more}
 use Rattle.sources.proofs.SetBits.{tested_none, tested_more, tested_all, tested_fails}

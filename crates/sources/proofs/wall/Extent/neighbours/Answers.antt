@@ -4,29 +4,30 @@ use Rattle.graphs.specs.Rows.{bit}
 use Rattle.graphs.proofs.Bits.{bit_none}
 use Rattle.sources.proofs.Grids.{past_count}
 use Rattle.graphs.proofs.Walls.{le_wall, right_below, wall_row}
-use Rattle.sources.proofs.wall.neighbours.Goals as goal
+use Rattle.sources.proofs.wall.Extent.neighbours.Goals as goal
 
 pub returns-then-a-count : goal.returns-then-a-count
-returns-then-a-count c = past_count c.args.columns (c.args.columns * c.args.levels) c.args.a c.if-a-count.true
+returns-then-a-count c = past_count c.args.self.now.columns (c.args.self.now.columns * c.args.self.now.levels) c.args.a (omega (arith, c.if-a-count.true, c.count-count.ensures))
 
 pub with_node-level-requires : goal.with_node-level-requires
 with_node-level-requires c = λ e.
-    let l = right_below c.args.columns c.args.levels c.args.a c.requires.wide (omega arith) (ltb-true (c.args.a % c.args.columns + 1) c.args.columns e) in
-    omega (arith, c.requires.few)
+    let l = right_below c.args.self.now.columns c.args.self.now.levels c.args.a c.args.self.now.wide (omega arith) (ltb-true (c.args.a % c.args.self.now.columns + 1) c.args.self.now.columns e) in
+    omega (arith, c.args.self.now.few)
 
 pub overflow_add-a-2 : goal.overflow_add-a-2
-overflow_add-a-2 c = omega (arith, le_wall c.args.columns c.args.levels c.requires.high, c.requires.few)
+overflow_add-a-2 c = omega (arith, le_wall c.args.self.now.columns c.args.self.now.levels c.args.self.now.high, c.args.self.now.few)
 
 pub overflow_add-a-3 : goal.overflow_add-a-3
-overflow_add-a-3 c = omega (arith, le_wall c.args.columns c.args.levels c.requires.high, c.requires.few)
+overflow_add-a-3 c = omega (arith, le_wall c.args.self.now.columns c.args.self.now.levels c.args.self.now.high, c.args.self.now.few)
 
 pub returns : goal.returns
 returns c =
     let a : ℕ = c.args.a in
-    let w : ℕ = c.args.columns in
-    let n : ℕ = c.args.columns * c.args.levels in
-    wall_row c.args.columns c.args.levels a c.requires.wide (omega arith) c.with_node.result
+    let w : ℕ = c.args.self.now.columns in
+    let n : ℕ = c.args.self.now.columns * c.args.self.now.levels in
+    wall_row c.args.self.now.columns c.args.self.now.levels a c.args.self.now.wide (omega arith) c.with_node.result
     (λ k. c.with_node.ensures k
+    ∙ ap (λ (m : ℕ). bit c.with_node-below.result k || (ltb (a + w) m && eqb (a + w) k)) c.count-count.ensures
     ∙ ap (λ (t : Bool). t || (ltb (a + w) n && eqb (a + w) k))
     (c.with_node-below.ensures k
     ∙ ap (λ (x : ℕ). bit c.with_node-level.result k || (leb w a && eqb x k)) c.saturating_sub-2.ensures
