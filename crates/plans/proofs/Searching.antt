@@ -253,42 +253,55 @@ held_ready p s fitted rows u b long lt lb was e is =
 
 -- ---- a search of the open pairs after o, by a call c that is accepted
 
-pub record Looks (p : Plan) (s : Setting) (o : Option (List ℕ)) (out : List ℕ) (c : Call) : Type 0 where
+pub record Looks (p : Plan) (s : Setting) (o : Option (List ℕ)) (out : List ℕ) (c : Call) (x : Result Find SearchError) : Type 0 where
   pub accepts : verdict (view p) c ≡ accepted
   pub makes : made (view p) c ≡ with_find (view p) (find_in (view p) s o)
   pub answers : (a : Answer) (b : List ℕ) → Finds (view p) s o out a b → Answered (view p) c a b
   pub counts : SameCounts p s
+  pub came : Came p s (open_pairs (view p)) o x
 
-pub seek_looks : (p : Plan) (s : Setting) (out : List ℕ) → Starts p s → p.units ≤ length out → Looks p s None out (seek s out)
-seek_looks p s out e long = record {
-  accepts = e _ ∙ cond-false _ _ _ (le-ltb (length out) p.units long);
-  makes = refl;
-  answers = λ a b f. f;
-  counts = same_counts p s e;
-}
+module _
+    (p : Plan) (s : Setting) (rows out : List ℕ) (x : Result Find SearchError) (fair : Fair s) (starts : Starts p s) (is : (u b : ℕ) → pairs rows u b ≡ open_pairs (view p) u b)
+    (long : p.units ≤ length rows) (fits : p.units ≤ length out) where
+  pub seek_looks : FindsFirst → x ≡ answer_of (shaped s.arrangement s.room (take p.units rows)) (walk s None (take p.units rows)) → Looks p s None out (seek s out) x
+  seek_looks finds e = record {
+    accepts = starts _ ∙ cond-false _ _ _ (le-ltb (length out) p.units fits);
+    makes = refl;
+    answers = λ a b f. f;
+    counts = same_counts p s starts;
+    came = first_came p s (take p.units rows) (open_pairs (view p)) x (open_ready p s rows long starts is) fair finds e;
+  }
 
-pub further_looks :
-    (p : Plan) (s : Setting) (last out : List ℕ) → Starts p s → p.last ≡ Some last → p.units ≤ length out → Looks p s (shortened p.units p.last) out (further s out)
-further_looks p s last out e was long = record {
-  accepts = e _ ∙ cond-false _ _ _ (ap (λ o. no_last (shortened p.units o)) was) ∙ cond-false _ _ _ (le-ltb (length out) p.units long);
-  makes = refl;
-  answers = λ a b f. f;
-  counts = same_counts p s e;
-}
+  pub further_looks :
+      (last : List ℕ) → p.last ≡ Some last → p.units ≤ length last → FindsNext
+      → x ≡ answer_of (shaped s.arrangement s.room (take p.units rows) && leb (length (take p.units rows)) (length last)) (walk s (Some (take (length (take p.units rows)) last)) (take p.units rows))
+      → Looks p s (shortened p.units p.last) out (further s out) x
+  further_looks last was far finds e = record {
+    accepts = starts _ ∙ cond-false _ _ _ (ap (λ o. no_last (shortened p.units o)) was) ∙ cond-false _ _ _ (le-ltb (length out) p.units fits);
+    makes = refl;
+    answers = λ a b f. f;
+    counts = same_counts p s starts;
+    came = next_came p s (take p.units rows) (open_pairs (view p)) last x (open_ready p s rows long starts is) fair finds far was e;
+  }
 
-module _ (p : Plan) (s : Setting) (o : Option (List ℕ)) (out : List ℕ) (c : Call) (look : Looks p s o out c) where
+module _ (p : Plan) (s : Setting) (o : Option (List ℕ)) (out : List ℕ) (c : Call) (x : Result Find SearchError) (look : Looks p s o out c x) where
   finding_is : (f : Option (List ℕ)) → Answers (Open (view p) s o) f → find_in (view p) s o ≡ f
   finding_is f a =
       let k = (keeps_rule R.OtherCount _ _ (look.counts accepted)).0 in
       answers_unique (Open (view p) s o) (find_in (view p) s o) f
       (find_wanted s (open_pairs (view p)) o p.units p.bays (arrangements_match (view p) s k) (rooms_match (view p) s k)) a
 
+  pub shaped_well : x ≡ Err IllShaped → ⊥
+  shaped_well = not_ill p s (open_pairs (view p)) o x look.came
+
+  pub found_got : (find : Find) → x ≡ Ok find → Got p s (open_pairs (view p)) o find.bays find.tries
+  found_got find is = got p s (open_pairs (view p)) o x find look.came is
+
   pub found_step :
-      (q : Plan) (x : Result Find SearchError) (find : Find) (front : List ℕ) → Came p s (open_pairs (view p)) o x → x ≡ Ok find
-      → q.units ≡ p.units → q.bays ≡ p.bays → q.struck ≡ p.struck → q.fitted ≡ p.fitted → q.last ≡ Some find.bays
+      (q : Plan) (find : Find) (front : List ℕ) → x ≡ Ok find → q.units ≡ p.units → q.bays ≡ p.bays → q.struck ≡ p.struck → q.fitted ≡ p.fitted → q.last ≡ Some find.bays
       → front ≡ take p.units find.bays → Step p (turn c (found find.tries) (front ++ drop p.units out)) q
-  found_step q x find front came is eu eb es ef el copied =
-      let first = got p s (open_pairs (view p)) o x find came is in
+  found_step q find front is eu eb es ef el copied =
+      let first = found_got find is in
       let w = take p.units find.bays in
       let k = (keeps_rule R.OtherCount _ _ (look.counts accepted)).0 in
       let last : shortened q.units q.last ≡ newest (find_in (view p) s o) (shortened p.units p.last) =
@@ -300,10 +313,9 @@ module _ (p : Plan) (s : Setting) (o : Option (List ℕ)) (out : List ℕ) (c : 
       (λ e. absurd (false≢true e))
 
   pub lost_step :
-      (x : Result Find SearchError) (e : D.Refusal) (r : Result ℕ D.Refusal) → Came p s (open_pairs (view p)) o x
-      → (t : ℕ) × (e ≡ P.NoPlacement t) × (x ≡ Err (NoPlacement t)) → IsErrAnd r (λ y. y ≡ e) → Step p (turn c (finding r) out) p
-  lost_step x e r came (t, et, is) re =
-      let lost : Lost p s (open_pairs (view p)) o t = subst (Came p s (open_pairs (view p)) o) is came in
+      (e : D.Refusal) (r : Result ℕ D.Refusal) → (t : ℕ) × (e ≡ P.NoPlacement t) × (x ≡ Err (NoPlacement t)) → IsErrAnd r (λ y. y ≡ e) → Step p (turn c (finding r) out) p
+  lost_step e r (t, et, is) re =
+      let lost : Lost p s (open_pairs (view p)) o t = subst (Came p s (open_pairs (view p)) o) is look.came in
       let y = err_from_is_err_and r re in
       accepted_step p p c (finding r) out look.accepts
       (sym (ap (with_find (view p)) (finding_is None lost.0)) ∙ sym look.makes)

@@ -9,4 +9,4 @@ returns c =
     let e = c.in_ok-row.ensures in
     let lt : c.args.unit < length p.struck = search rules in
     let low : c.in_ok-row.row < 2 ^ 64 = search rules in
-    free_step p _ _ _ _ (e.tests accepted) e.inside.1 lt low e.row refl refl refl refl refl
+    free_step p _ c.args.unit c.args.bay c.in_ok-row.row (e.tests accepted) e.inside.1 lt low e.row refl refl refl refl refl

@@ -2,9 +2,7 @@ use Rattle.std.proofs.Common.{◌≤◌, length, None, refl, rules}
 use Rattle.search.specs.Walk.{Setting, setting}
 use Rattle.ledgers.specs.Calls.{seek}
 use Rattle.ledgers.specs.Wanted.{Fair}
-use Rattle.ledgers.specs.Ledger.{open_pairs}
-use Rattle.plans.specs.Step.{view}
-use Rattle.plans.proofs.Searching.{Came, Looks, open_ready, first_came, not_ill, got, seek_looks, found_step, lost_step}
+use Rattle.plans.proofs.Searching.{Looks, seek_looks, shaped_well, found_got, found_step, lost_step}
 use Rattle.plans.proofs.plan.Plan.seek.Given.{Over}
 use Rattle.plans.proofs.plan.Plan.seek.Goals.{After-first}
 use Rattle.plans.proofs.plan.Plan.seek.Goals as goal
@@ -15,34 +13,35 @@ shown g c = setting (g.A.Source.graph c.args.problem.now.arrangement.now) (g.R.S
 fair : (g : Over) (c : After-first g) → Fair (shown g c)
 fair g c = record { arrangement = g.A.Source.sound c.args.problem.now.arrangement.now; room = g.R.Source.sound c.args.problem.now.room.now; filter = g.met.F.Filter.lawful c.args.filter.now }
 
-looks : (g : Over) (c : After-first g) → Looks c.args.self.now (shown g c) None c.args.out.now (seek (shown g c) c.args.out.now)
-looks g c = seek_looks c.args.self.now (shown g c) c.args.out.now c.in_ok-rows.ensures.tests c.if-out-units.false
-
-came : (g : Over) (c : After-first g) → Came c.args.self.now (shown g c) (open_pairs (view c.args.self.now)) None c.first.result
-came g c =
-    let p = c.args.self.now in
-    let rows = c.in_ok-rows.rows in
-    let long : p.units ≤ length rows = search rules in
-    first_came p (shown g c) _ _ _ (open_ready p (shown g c) rows long c.in_ok-rows.ensures.tests c.in_ok-rows.ensures.rows) (fair g c) c.first.ensures.theorem c.first.ensures.answer
+looks : (g : Over) (c : After-first g) → Looks c.args.self.now (shown g c) None c.args.out.now (seek (shown g c) c.args.out.now) c.first.result
+looks g c =
+    let long : c.args.self.now.units ≤ length c.in_ok-rows.rows = search rules in
+    seek_looks c.args.self.now (shown g c) c.in_ok-rows.rows c.args.out.now c.first.result (fair g c)
+    c.in_ok-rows.ensures.tests c.in_ok-rows.ensures.rows long c.if-out-units.false c.first.ensures.theorem c.first.ensures.answer
 
 pub outcome-requires : goal.outcome-requires
-outcome-requires g c = not_ill _ _ _ _ _ (came g c)
+outcome-requires g c = shaped_well c.args.self.now (shown g c) None c.args.out.now _ c.first.result (looks g c)
 
 pub returns-in_err-find : goal.returns-in_err-find
 returns-in_err-find g c =
     let k = (goal.at.returns-in_err-find g c).After-first in
     record {
-      step = lost_step c.args.self.now (shown g k) None c.args.out.now _ (looks g k) _ _ _ (came g k) c.in_err-find.ensures c.from_residual-in_err-find.ensures.1;
+      step = lost_step c.args.self.now (shown g k) None c.args.out.now _ c.first.result (looks g k) _ c.from_residual-in_err-find.result c.in_err-find.ensures c.from_residual-in_err-find.ensures.1;
       shows = fair g k;
     }
 
 pub invariant_of-self-clause-last_low : goal.invariant_of-self-clause-last_low
-invariant_of-self-clause-last_low g c = (got _ _ _ _ _ _ (came g (goal.at.invariant_of-self-clause-last_low g c).After-first) c.in_ok-find.ensures).low
+invariant_of-self-clause-last_low g c =
+    let k = (goal.at.invariant_of-self-clause-last_low g c).After-first in
+    (found_got c.args.self.now (shown g k) None c.args.out.now _ c.first.result (looks g k) c.in_ok-find.find c.in_ok-find.ensures).low
 
 pub invariant_of-self-clause-last_blank : goal.invariant_of-self-clause-last_blank
-invariant_of-self-clause-last_blank g c = (got _ _ _ _ _ _ (came g (goal.at.invariant_of-self-clause-last_blank g c).After-first) c.in_ok-find.ensures).blank
+invariant_of-self-clause-last_blank g c =
+    let k = (goal.at.invariant_of-self-clause-last_blank g c).After-first in
+    (found_got c.args.self.now (shown g k) None c.args.out.now _ c.first.result (looks g k) c.in_ok-find.find c.in_ok-find.ensures).blank
 
 pub returns-clause-step : goal.returns-clause-step
 returns-clause-step g c =
     let k = (goal.at.returns-clause-step g c).After-first in
-    found_step c.args.self.now (shown g k) None c.args.out.now _ (looks g k) _ _ _ _ (came g k) c.in_ok-find.ensures refl refl refl refl refl c.copy_from_slice.ensures.after
+    found_step c.args.self.now (shown g k) None c.args.out.now _ c.first.result (looks g k) _ c.in_ok-find.find c.copy_from_slice.new.self
+    c.in_ok-find.ensures refl refl refl refl refl c.copy_from_slice.ensures.after

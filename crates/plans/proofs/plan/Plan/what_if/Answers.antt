@@ -33,7 +33,7 @@ came g c =
     (fair g c) c.first.ensures.theorem c.first.ensures.answer
 
 pub outcome-requires : goal.outcome-requires
-outcome-requires g c = not_ill _ _ _ _ _ (came g c)
+outcome-requires g c = not_ill c.args.self.now (shown g c) (held_to (open_pairs (view c.args.self.now)) c.args.unit c.args.bay) None c.first.result (came g c)
 
 pub invariant_of-self-in_err-find-clause-fitted_inside : goal.invariant_of-self-in_err-find-clause-fitted_inside
 invariant_of-self-in_err-find-clause-fitted_inside g c = let p = c.args.self.now in subst (λ r. Inside p.bays r) (sym (put_back c.in-Some.fitted _ c.args.unit _ c.drop-guard.ensures)) (fitted_inside p c.in-Some.fitted c.in-Some.is)
@@ -49,7 +49,7 @@ returns-in_err-find g c =
     let back = put_back fitted _ c.args.unit _ c.drop-guard.ensures in
     record {
       step = asked_none p _ (shown g k) fitted c.args.unit c.args.bay c.in_ok-in_range.ensures.tests c.in-Some.is c.in_ok-same_counts.ensures
-          (record { units = refl; bays = refl; struck = refl; fitted = ap Some back ∙ sym c.in-Some.is; last = refl }) _ _ _ (came g k) c.in_err-find.ensures c.from_residual-in_err-find.ensures.1;
+          (record { units = refl; bays = refl; struck = refl; fitted = ap Some back ∙ sym c.in-Some.is; last = refl }) c.first.result _ c.from_residual-in_err-find.result (came g k) c.in_err-find.ensures c.from_residual-in_err-find.ensures.1;
       shows = fair g k;
     }
 
@@ -60,4 +60,4 @@ returns-clause-step g c =
     let fitted = c.in-Some.fitted in
     let back = put_back fitted _ c.args.unit _ c.drop-guard-2.ensures in
     asked_yes p _ (shown g k) fitted c.args.unit c.args.bay c.in_ok-in_range.ensures.tests c.in-Some.is c.in_ok-same_counts.ensures
-    (record { units = refl; bays = refl; struck = refl; fitted = ap Some back ∙ sym c.in-Some.is; last = refl }) _ _ (came g k) c.in_ok-find.ensures
+    (record { units = refl; bays = refl; struck = refl; fitted = ap Some back ∙ sym c.in-Some.is; last = refl }) c.first.result c.in_ok-find.find (came g k) c.in_ok-find.ensures
