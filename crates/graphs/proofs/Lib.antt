@@ -3,3 +3,4 @@ pub mod Rows
 pub mod JointTables
 pub mod Walls
 pub mod PairSets
+pub mod Lowest

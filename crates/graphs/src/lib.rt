@@ -2,16 +2,50 @@
 #![tactic(auto)]
 
 pub mod pairs;
+#[cfg(test)]
+mod tests;
 
 ghost use Rattle.std.specs.Prelude.{◌≡◌, ℕ};
 ghost use Rattle.graphs.specs.Rows.{bit, row_of};
+ghost use Rattle.graphs.specs.Nodes.{nodes_of};
 ghost use Rattle.graphs.specs.Graph.{Graph, Sound, Symmetric};
+ghost use Rattle.std.specs.Iterator.{YieldsFirst, item_count};
 
 // Whether the row holds the bay `b`.
 pub fn holds(row: u64, b: usize) -> bool
     ensures { result ≡ bit row b }
 {
     b < 64 && (row >> b) % 2 == 1
+}
+
+// The nodes of a row that are still to come, lowest first.
+#[derive(Clone, Debug, Drop)]
+pub struct RowNodes {
+    rest: u64,
+}
+
+// The nodes that the row holds, lowest first.
+pub fn nodes(row: u64) -> RowNodes
+    ensures { result.rest ≡ row }
+{
+    RowNodes { rest: row }
+}
+
+impl Iterator for RowNodes {
+    type Item = usize;
+
+    ghost next_gives = { YieldsFirst (λ s. nodes_of s.rest) };
+
+    ghost remaining = { item_count (λ s. nodes_of s.rest) };
+
+    fn next(&mut self) -> Option<usize> {
+        if self.rest == 0 {
+            return None;
+        }
+        let lowest = self.rest.trailing_zeros() as usize;
+        self.rest &= self.rest - 1;
+        Some(lowest)
+    }
 }
 
 // A source of joints: how many nodes there are, and which node is joined to which.
