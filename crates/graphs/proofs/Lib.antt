@@ -4,3 +4,4 @@ pub mod JointTables
 pub mod Walls
 pub mod PairSets
 pub mod Lowest
+pub mod FromFn

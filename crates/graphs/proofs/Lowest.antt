@@ -3,11 +3,17 @@ use Rattle.std.proofs.Common.{◌≡◌, ℕ, zero, suc, ◌+◌, ◌-◌, ◌/�
 use native.Mathlib.Nat.{pow-succ'}
 use lib.Bits.{bit_and, and_le_l}
 use lib.Count.{count_trailing_zeros, under}
-use Rattle.std.specs.List.{range_with_len}
+use Rattle.std.specs.List.{range_with_len, Contains}
+use Rattle.std.specs.List.Sorted.{IsStrictlyIncreasing}
+use Rattle.std.proofs.lemmas.List.Elements.{filter_passes}
+use Rattle.std.proofs.lemmas.List.Filters.{length-filter_both}
+use Rattle.std.proofs.lemmas.List.FromFn.{length-range_with_len, get_or-range_with_len}
+use Rattle.std.proofs.lemmas.List.Kept.{IsStrictlyIncreasing-filter}
 use Rattle.std.proofs.lemmas.Bool.{both_ways, eq-eqb, ne_eqb, cases_Bool, cases_eq, cases_lt, and_left, and_right}
 use Rattle.std.proofs.lemmas.Bool.Decides.{nat_tests}
 use Rattle.graphs.specs.Rows.{bit}
 use Rattle.graphs.specs.Nodes.{nodes_of}
+use Rattle.graphs.specs.declared.RowNodes.{RowNodes}
 use Rattle.graphs.proofs.Bits.{digit_cases, bit_none, bit_zero, bit_suc, bit_of_and, bit_lowest, bit_past, same_rows}
 
 and_true : (t : Bool) → (t && true) ≡ t
@@ -168,9 +174,8 @@ pub record Turn (s x t : ℕ) : Type 0 where
   pub none_before : (c : ℕ) → c < x → bit s c ≡ false
   pub but : (c : ℕ) → bit t c ≡ (bit s c && not (eqb c x))
 
--- what `nodes` says of a turn, and at the end
-pub turn : (s x t : ℕ) → s < 2 ^ 64 → t < 2 ^ 64 → nodes_of s ≡ x ∷ nodes_of t → Turn s x t
-turn s x t hs ht e =
+turn_of : (s x t : ℕ) → s < 2 ^ 64 → t < 2 ^ 64 → nodes_of s ≡ x ∷ nodes_of t → Turn s x t
+turn_of s x t hs ht e =
     let some : 0 < s = elim (cases_lt 0 s) [
       | inl l ↦ l
       | inr g ↦ absurd (let z : s ≡ 0 = omega arith in let l : 0 ≡ suc (length (nodes_of t)) = ap length (sym nodes_none ∙ ap nodes_of (sym z) ∙ e) in omega arith)
@@ -192,5 +197,47 @@ turn s x t hs ht e =
       but = λ c. ap (λ (y : ℕ). bit y c) rest ∙ lowest_off 64 s some hs c ∙ ap (λ (y : ℕ). bit s c && not (eqb c y)) (sym lowest);
     }
 
-pub nodes_end : (s : ℕ) → s < 2 ^ 64 → nodes_of s ≡ [] → s ≡ 0
-nodes_end s h e = nodes_same s 0 h (omega arith) (e ∙ sym nodes_none)
+-- in a `for b in nodes(row)`: what `next` says at `Some b`, where it found s and left t, and what it says at `None`
+pub turn : (s t : RowNodes) {x : ℕ} → nodes_of s.rest ≡ x ∷ nodes_of t.rest → Turn s.rest x t.rest
+turn s t {x} e = turn_of s.rest x t.rest s.fits t.fits e
+
+pub no_more : (s : RowNodes) → nodes_of s.rest ≡ [] → s.rest ≡ 0
+no_more s e = nodes_same s.rest 0 s.fits (omega arith) (e ∙ sym nodes_none)
+
+-- ---- which nodes come, and in which order
+
+pub come_held : (row c : ℕ) → Contains (nodes_of row) c → bit row c ≡ true
+unfolding nodes_of
+come_held row c (k, l, e) = subst (λ (d : ℕ). bit row d ≡ true) e (filter_passes (bit row) (range_with_len 0 64) k c l)
+
+later : (x c : ℕ) (xs : List ℕ) → Contains xs c → Contains (x ∷ xs) c
+later x c xs (k, l, e) = (suc k, omega (arith, l), e)
+
+passed_come : (p : ℕ → Bool) (n a c : ℕ) → a ≤ c → c < a + n → p c ≡ true → Contains (filter p (range_with_len a n)) c
+passed_come p zero a c l h e = absurd (omega arith)
+passed_come p (suc n) a c l h e =
+    elim (cases_eq a c) [
+      | inl z ↦ subst (λ (ys : List ℕ). Contains ys c) (sym (takes p n a (ap p z ∙ e))) (0, omega arith, z)
+      | inr z ↦
+          let i = passed_come p n (a + 1) c (omega arith) (omega arith) e in
+          elim (cases_Bool (p a)) [
+            | inl t ↦ subst (λ (ys : List ℕ). Contains ys c) (sym (takes p n a t)) (later a c _ i)
+            | inr f ↦ subst (λ (ys : List ℕ). Contains ys c) (sym (leaves p n a f)) i
+          ]
+    ]
+
+pub held_come : (row c : ℕ) → row < 2 ^ 64 → bit row c ≡ true → Contains (nodes_of row) c
+unfolding nodes_of
+held_come row c h e =
+    passed_come (bit row) 64 0 c (omega arith)
+    (elim (cases_lt c 64) [ inl l ↦ l | inr g ↦ absurd (both_ways _ (bit_past row c 64 h g) e) ]) e
+
+pub nodes_rise : (row : ℕ) → IsStrictlyIncreasing (nodes_of row)
+unfolding nodes_of
+nodes_rise row = IsStrictlyIncreasing-filter (bit row) (range_with_len 0 64) (λ k l.
+    let long = length-range_with_len 0 64 in
+    omega (arith, get_or-range_with_len 0 64 k 0 (omega (arith, l, long)), get_or-range_with_len 0 64 (k + 1) 0 (omega (arith, l, long))))
+
+pub nodes_few : (row : ℕ) → length (nodes_of row) ≤ 64
+unfolding nodes_of
+nodes_few row = omega (arith, length-filter_both (bit row) (λ c. not (bit row c)) (λ c. refl) (range_with_len 0 64), length-range_with_len 0 64)

@@ -1,9 +1,9 @@
 -- Rows from sets of pairs and back. Assumes nothing.
-use Rattle.std.proofs.Common.{◌≡◌, ℕ, zero, suc, ◌+◌, ◌-◌, ◌^◌, ◌<◌, ◌≤◌, Bool, true, false, not, ◌&&◌, ltb, List, [], ◌∷◌, length, get_or, take, set, sym, refl, ap, ◌∙◌, subst, ap₂, ⊎_elim, arith, pow_pos}
+use Rattle.std.proofs.Common.{◌≡◌, ℕ, zero, suc, ◌-◌, ◌^◌, ◌<◌, ◌≤◌, Bool, true, false, not, ◌&&◌, ltb, List, [], ◌∷◌, length, get_or, take, sym, refl, ap, ◌∙◌, ap₂, ⊎_elim, arith, pow_pos}
 use mathlib.Core.Path.{fun_ext}
 use lib.Bits.{bit_and}
-use Rattle.std.proofs.lemmas.List.{get_or_past, get_or-set_same, get_or-set_other, length-set}
-use Rattle.std.proofs.lemmas.Bool.{cases_eq, cases_lt, lt-ltb, le-ltb}
+use Rattle.std.proofs.lemmas.List.{get_or_past}
+use Rattle.std.proofs.lemmas.Bool.{cases_lt, lt-ltb, le-ltb}
 use Rattle.std.proofs.lemmas.Bool.Decides.{nat_tests}
 use Rattle.graphs.specs.Rows.{bit, Pairs, pairs, rows_of}
 use Rattle.graphs.proofs.Bits.{bit_of_and, bit_none, bit_past, bit_not, bits_below}
@@ -72,27 +72,12 @@ none_past m rows z u b le = ap (λ (x : ℕ). bit x b) (z u le) ∙ bit_none b
 pub none_beyond : (n : ℕ) (rows : List ℕ) → ((u : ℕ) → get_or rows u 0 < 2 ^ n) → (u b : ℕ) → n ≤ b → pairs rows u b ≡ false
 none_beyond n rows w u b le = bit_past (get_or rows u 0) b n (w u) le
 
--- ---- a table that a loop fills row by row
+-- ---- a table of 24 rows that is made row by row
 
--- the rows below i hold the pairs s, and there are 24 rows
-pub record Filled (s : Pairs) (i : ℕ) (rows : List ℕ) : Type 0 where
-  pub long : length rows ≡ 24
-  pub held : (u b : ℕ) → u < i → pairs rows u b ≡ s u b
-
-pub filled_more : (s : Pairs) (i x : ℕ) (rows : List ℕ) → i < 24 → Filled s i rows → ((b : ℕ) → bit x b ≡ s i b) → Filled s (i + 1) (set rows i x)
-filled_more s i x rows lt f e = record {
-  long = length-set rows i x ∙ f.long;
-  held = λ u b h.
-      let P : ℕ → Type 0 = λ v. pairs (set rows i x) v b ≡ s v b in
-      let l : i < length rows = omega (arith, f.long) in
-      ⊎_elim (λ z. subst P (sym z) (ap (λ (y : ℕ). bit y b) (get_or-set_same rows i x 0 l) ∙ e b))
-      (λ ne. ap (λ (y : ℕ). bit y b) (get_or-set_other rows i u x 0 ne) ∙ f.held u b (omega (arith, ne))) (cases_eq u i);
-}
-
-pub filled_all : (s : Pairs) (i : ℕ) (rows : List ℕ) → 24 ≤ i → Filled s i rows → ((u b : ℕ) → 24 ≤ u → s u b ≡ false) → (u b : ℕ) → pairs rows u b ≡ s u b
-filled_all s i rows le f none u b =
-    ⊎_elim (λ lt. f.held u b (omega arith))
-    (λ ge. ap (λ (x : ℕ). bit x b) (get_or_past rows u 0 (omega (arith, f.long))) ∙ bit_none b ∙ sym (none u b ge)) (cases_lt u 24)
+pub all_rows : (s : Pairs) (rows : List ℕ) → length rows ≡ 24 → ((u b : ℕ) → u < 24 → pairs rows u b ≡ s u b) → ((u b : ℕ) → 24 ≤ u → s u b ≡ false) → (u b : ℕ) → pairs rows u b ≡ s u b
+all_rows s rows long held none u b =
+    ⊎_elim (λ lt. held u b lt)
+    (λ ge. ap (λ (x : ℕ). bit x b) (get_or_past rows u 0 (omega arith)) ∙ bit_none b ∙ sym (none u b ge)) (cases_lt u 24)
 
 pub past_table : (rows : List ℕ) → length rows ≡ 24 → (u b : ℕ) → 24 ≤ u → pairs rows u b ≡ false
 past_table rows e u b le = ap (λ (x : ℕ). bit x b) (get_or_past rows u 0 (omega arith)) ∙ bit_none b

@@ -5,7 +5,7 @@ pub mod pairs;
 #[cfg(test)]
 mod tests;
 
-ghost use Rattle.std.specs.Prelude.{◌≡◌, ℕ};
+ghost use Rattle.std.specs.Prelude.{◌≡◌, ℕ, ◌<◌, ◌≤◌, ◌^◌, Bool};
 ghost use Rattle.graphs.specs.Rows.{bit, row_of};
 ghost use Rattle.graphs.specs.Nodes.{nodes_of};
 ghost use Rattle.graphs.specs.Graph.{Graph, Sound, Symmetric};
@@ -19,9 +19,10 @@ pub fn holds(row: u64, b: usize) -> bool
 }
 
 // The nodes of a row that are still to come, lowest first.
-#[derive(Clone, Debug, Drop)]
+#[derive(Drop)]
 pub struct RowNodes {
     rest: u64,
+    ghost fits: { rest < 2 ^ 64 },
 }
 
 // The nodes that the row holds, lowest first.
@@ -69,25 +70,28 @@ pub trait Source {
     fn row(&self, a: usize) -> u64
         ensures { result ≡ row_of (graph self.now).count (λ b. (graph self.now).joined a b) }
     {
-        let mut row: u64 = 0;
-        for b in 0..self.count() {
-            if self.joined(a, b) {
-                row |= 1 << b;
-            }
-        }
-        row
+        row_where(self.count(), |b| self.joined(a, b))
     }
 
     // The nodes that are joined to `b`.
     fn column(&self, b: usize) -> u64
         ensures { result ≡ row_of (graph self.now).count (λ a. (graph self.now).joined a b) }
     {
-        let mut column: u64 = 0;
-        for a in 0..self.count() {
-            if self.joined(a, b) {
-                column |= 1 << a;
-            }
-        }
-        column
+        row_where(self.count(), |a| self.joined(a, b))
     }
+}
+
+// The nodes below `count` that pass the test.
+fn row_where<P: Fn(usize) -> bool>(count: usize, passes: P) -> u64
+    requires few { count ≤ 64 }
+    requires can { P.IsAlwaysCallable passes }
+    ensures { (p : ℕ → Bool) → ((b : ℕ) (t : Bool) → b < count → P.post passes b t → t ≡ p b) → result ≡ row_of count p }
+{
+    let mut row: u64 = 0;
+    for b in 0..count {
+        if passes(b) {
+            row |= 1 << b;
+        }
+    }
+    row
 }

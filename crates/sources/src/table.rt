@@ -9,7 +9,7 @@ ghost use Rattle.sources.specs.Taking.{Taken};
 ghost use Rattle.sources.specs.Drawn.{Written};
 
 use crate::fault::JointFault;
-use graphs::{Source, holds};
+use graphs::{Source, holds, nodes};
 
 // The rows are written out once, so that a search reads a node's row with no look at how many there are.
 #[derive(Clone, Copy)]
@@ -109,10 +109,8 @@ fn look_over_row(rows: &[u64], a: usize) -> Result<(), JointFault>
     requires { a < length rows.now }
     ensures { LookedOver result (PairsLawful rows.now a) }
 {
-    let mut rest = rows[a];
-    while rest != 0 {
-        look_over_pair(rows, a, rest.trailing_zeros() as usize)?;
-        rest &= rest - 1;
+    for b in nodes(rows[a]) {
+        look_over_pair(rows, a, b)?;
     }
     Ok(())
 }

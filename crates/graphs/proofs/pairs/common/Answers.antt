@@ -1,20 +1,16 @@
-use Rattle.std.proofs.Common.{◌≡◌, Bool, ◌&&◌, length, get_or, ap, arith, rules}
-use Rattle.graphs.specs.Rows.{pairs}
+use Rattle.std.proofs.Common.{ℕ, Bool, ◌&&◌, get_or, ap, ◌∙◌, rules, tests}
+use lib.Bits.{bit_and}
+use Rattle.graphs.specs.Rows.{bit, pairs}
 use Rattle.graphs.proofs.Bits.{bit_of_and}
-use Rattle.graphs.proofs.PairSets.{filled_more, filled_all, past_table}
+use Rattle.graphs.proofs.FromFn.{made_by}
+use Rattle.graphs.proofs.PairSets.{all_rows, past_table}
 use Rattle.graphs.proofs.pairs.common.Goals as goal
-
-pub loop-i-preserved : goal.loop-i-preserved
-loop-i-preserved c =
-    let xs = c.args.rows.now in
-    let ys = c.args.other.now in
-    let i = c.loop-i.i in
-    filled_more (λ u b. pairs xs u b && pairs ys u b) i _ c.loop-i.both (omega arith) c.loop-i.invariant (λ b. bit_of_and (get_or xs i 0) (get_or ys i 0) b)
 
 pub returns : goal.returns
 returns c =
     let xs = c.args.rows.now in
     let ys = c.args.other.now in
-    let long : length xs ≡ 24 = search rules in
-    filled_all (λ u b. pairs xs u b && pairs ys u b) c.loop-i.i c.loop-i.both (omega arith) c.loop-i.invariant
-    (λ u b le. ap (λ (t : Bool). t && pairs ys u b) (past_table xs long u b le))
+    let row : ℕ → ℕ = λ u. bit_and (get_or xs u 0) (get_or ys u 0) in
+    all_rows (λ u b. pairs xs u b && pairs ys u b) c.from_fn.result c.from_fn.ensures.items.long
+    (λ u b l. ap (λ (x : ℕ). bit x b) (made_by _ _ row (λ i y q k. search (rules, tests)) c.from_fn.result 24 c.from_fn.ensures.items u l) ∙ bit_of_and (get_or xs u 0) (get_or ys u 0) b)
+    (λ u b le. ap (λ (t : Bool). t && pairs ys u b) (past_table xs c.told-rows u b le))

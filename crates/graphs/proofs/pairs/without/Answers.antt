@@ -1,21 +1,16 @@
-use Rattle.std.proofs.Common.{◌≡◌, ◌^◌, ◌<◌, Bool, not, ◌&&◌, length, get_or, ap, arith, rules}
-use Rattle.graphs.specs.Rows.{pairs}
-use Rattle.graphs.proofs.PairSets.{filled_more, filled_all, past_table, bit_without}
+use Rattle.std.proofs.Common.{ℕ, Bool, not, ◌-◌, ◌&&◌, get_or, ap, ◌∙◌, rules, tests}
+use lib.Bits.{bit_and}
+use Rattle.graphs.specs.Rows.{bit, pairs}
+use Rattle.graphs.proofs.FromFn.{made_by}
+use Rattle.graphs.proofs.PairSets.{all_rows, past_table, bit_without}
 use Rattle.graphs.proofs.pairs.without.Goals as goal
-
-pub loop-i-preserved : goal.loop-i-preserved
-loop-i-preserved c =
-    let xs = c.args.rows.now in
-    let ys = c.args.other.now in
-    let i = c.loop-i.i in
-    let fx : get_or xs i 0 < 2 ^ 64 = search rules in
-    let fy : get_or ys i 0 < 2 ^ 64 = search rules in
-    filled_more (λ u b. pairs xs u b && not (pairs ys u b)) i _ c.loop-i.left (omega arith) c.loop-i.invariant (λ b. bit_without (get_or xs i 0) (get_or ys i 0) b fx fy)
 
 pub returns : goal.returns
 returns c =
     let xs = c.args.rows.now in
     let ys = c.args.other.now in
-    let long : length xs ≡ 24 = search rules in
-    filled_all (λ u b. pairs xs u b && not (pairs ys u b)) c.loop-i.i c.loop-i.left (omega arith) c.loop-i.invariant
-    (λ u b le. ap (λ (t : Bool). t && not (pairs ys u b)) (past_table xs long u b le))
+    let row : ℕ → ℕ = λ u. bit_and (get_or xs u 0) (18446744073709551615 - get_or ys u 0) in
+    all_rows (λ u b. pairs xs u b && not (pairs ys u b)) c.from_fn.result c.from_fn.ensures.items.long
+    (λ u b l. ap (λ (x : ℕ). bit x b) (made_by _ _ row (λ i y q k. search (rules, tests)) c.from_fn.result 24 c.from_fn.ensures.items u l)
+    ∙ bit_without (get_or xs u 0) (get_or ys u 0) b (c.fits-rows u) (c.fits-other u))
+    (λ u b le. ap (λ (t : Bool). t && not (pairs ys u b)) (past_table xs c.told-rows u b le))
