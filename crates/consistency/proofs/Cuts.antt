@@ -2,23 +2,22 @@
 use Rattle.std.proofs.Common.{◌≡◌, ℕ, zero, suc, ◌+◌, ◌-◌, ◌*◌, ◌/◌, ◌%◌, ◌^◌, ◌<◌, ◌≤◌, Bool, true, false, not, ◌||◌, eqb, ◌⊎◌, List, length, get_or, set, sym, refl, ap, ◌∙◌, subst, inl, inr, arith, length-set, get_or-set_other, get_or-set_same}
 use native.Mathlib.Nat.{pow-succ'}
 use lib.Bits.{bit_and, bit_or, and_le_l}
-use lib.Count.{ones, ones_step, count_trailing_zeros}
+use lib.Count.{ones, ones_step}
 use Rattle.std.proofs.lemmas.Nat.{one_shl}
 use Rattle.std.proofs.lemmas.Bool.{both_ways, eqb-true, eq-eqb, ne_eqb, cases_eq, lt-ltb, cases_Bool, and_parts, and_from, or_cases, not_from_false}
 use Rattle.graphs.specs.Rows.{bit, pairs}
-use Rattle.graphs.proofs.Bits.{bit_none, bit_of_and, bit_of_or, bit_one, bit_lowest, bit_below}
+use Rattle.graphs.proofs.Bits.{bit_none, bit_of_and, bit_of_or, bit_one, bit_below}
 use Rattle.graphs.proofs.Rows.{bit_all}
 use Rattle.filters.specs.Filter.{Inside, pair_count, all_below}
 use Rattle.filters.specs.Shapes.{all_below_at}
 use Rattle.filters.specs.Counting.{Part, inside_half, low_inside, ones_zero, ones_same, below_pow}
 use Rattle.consistency.specs.Cut.{CutTo}
-use Rattle.consistency.proofs.Lowest.{lowest_off}
+use Rattle.graphs.proofs.Lowest.{Turn}
 use Rattle.consistency.proofs.Steps.{pair_count_set}
 
 -- the rows of the units that are not among the rest are cut
 pub record Cutting (units keep : ℕ) (before : List ℕ) (rest : ℕ) (rows : List ℕ) (changed taken : ℕ) : Type 0 where
   pub many : length rows ≡ length before
-  pub fits : rest < 2 ^ 64
   pub left : (u : ℕ) → bit rest u ≡ true → bit units u ≡ true
   pub inside : Inside rows before
   pub keeps : (u b : ℕ) → pairs before u b ≡ true → (bit units u ≡ true → bit keep b ≡ true) → pairs rows u b ≡ true
@@ -56,10 +55,9 @@ or_none false t e = (refl, e)
 or_none true t e = absurd (both_ways true e refl)
 
 module _ (units keep : ℕ) (before : List ℕ) where
-  pub cutting_start : units < 2 ^ 64 → Cutting units keep before units before 0 0
-  cutting_start f = record {
+  pub cutting_start : Cutting units keep before units before 0 0
+  cutting_start = record {
     many = refl;
-    fits = f;
     left = λ u t. t;
     inside = λ u b t. t;
     keeps = λ u b t h. t;
@@ -73,108 +71,89 @@ module _ (units keep : ℕ) (before : List ℕ) where
   abbrev Now : ℕ → List ℕ → ℕ → ℕ → Type 0
   Now = Cutting units keep before
 
-  abbrev next : ℕ → ℕ
-  next rest = bit_and rest (rest - 1)
+  module _ {rest u next changed taken : ℕ} {rows : List ℕ} (n : Turn rest u next) (h : Now rest rows changed taken) where
+    abbrev row : ℕ
+    row = get_or rows u 0
 
-  -- the lowest of the rest
-  pub lowest_here : (rest changed taken : ℕ) (rows : List ℕ) → Now rest rows changed taken → ((u : ℕ) → bit units u ≡ true → u < length before) → 0 < rest
-      → (count_trailing_zeros 64 rest < 64) × (count_trailing_zeros 64 rest < length rows)
-  lowest_here rest changed taken rows h w l =
-      let f = h.fits in
-      let t = bit_lowest 64 rest l f in
-      (bit_below rest 64 (count_trailing_zeros 64 rest) f t, let i = w (count_trailing_zeros 64 rest) (h.left (count_trailing_zeros 64 rest) t) in omega (arith, h.many))
+    -- the lowest of the rest
+    pub lowest_here : ((w : ℕ) → bit units w ≡ true → w < length before) → u < length rows
+    lowest_here w = let i = w u (h.left u n.held) in omega (arith, h.many)
 
-  next_fits : (rest : ℕ) → rest < 2 ^ 64 → next rest < 2 ^ 64
-  next_fits rest f = omega (arith, and_le_l rest (rest - 1))
+    next_left : (w : ℕ) → bit next w ≡ true → bit rest w ≡ true
+    next_left w t = (and_parts (bit rest w) (not (eqb w u)) (sym (n.but w) ∙ t)).0
 
-  next_left : (rest u : ℕ) → 0 < rest → rest < 2 ^ 64 → bit (next rest) u ≡ true → bit rest u ≡ true
-  next_left rest u l f t = (and_parts (bit rest u) (not (eqb u (count_trailing_zeros 64 rest))) (sym (lowest_off 64 rest l f u) ∙ t)).0
-
-  next_off : (rest u : ℕ) → 0 < rest → rest < 2 ^ 64 → bit (next rest) u ≡ false → (bit rest u ≡ false) ⊎ (u ≡ count_trailing_zeros 64 rest)
-  next_off rest u l f t =
-      elim (cases_eq u (count_trailing_zeros 64 rest)) [
-        | inl z ↦ inr z
-        | inr nz ↦ elim (cases_Bool (bit rest u)) [
-          | inl s ↦ absurd (both_ways (bit (next rest) u) t (lowest_off 64 rest l f u ∙ and_from (bit rest u) (not (eqb u (count_trailing_zeros 64 rest))) s (not_from_false (eqb u (count_trailing_zeros 64 rest)) (ne_eqb u (count_trailing_zeros 64 rest) nz))))
-          | inr s ↦ inl s
-        ]
-      ]
-
-  -- the row of the lowest unit is inside `keep` already
-  pub cutting_pass : (rest changed taken : ℕ) (rows : List ℕ) → Now rest rows changed taken → 0 < rest
-      → bit_and (get_or rows (count_trailing_zeros 64 rest) 0) keep ≡ get_or rows (count_trailing_zeros 64 rest) 0 → Now (next rest) rows changed taken
-  cutting_pass rest changed taken rows h l e =
-      let f = h.fits in record {
-        many = h.many;
-        fits = next_fits rest f;
-        left = λ u t. h.left u (next_left rest u l f t);
-        inside = h.inside;
-        keeps = h.keeps;
-        cuts = λ u b i o t. elim (next_off rest u l f o) [
-          | inl s ↦ h.cuts u b i s t
-          | inr z ↦
-              let row : ℕ = get_or rows (count_trailing_zeros 64 rest) 0 in
-              (and_parts (bit row b) (bit keep b) (sym (bit_of_and row keep b) ∙ (ap (λ (x : ℕ). bit x b) e ∙ (ap (λ (v : ℕ). bit (get_or rows v 0) b) (sym z) ∙ t)))).1
-        ];
-        same = h.same;
-        only = h.only;
-        counted = h.counted;
-        still = h.still;
-      }
-
-  -- it is not: the row is cut
-  pub cutting_step : (rest changed taken : ℕ) (rows : List ℕ) → Now rest rows changed taken → 0 < rest → ((u : ℕ) → bit units u ≡ true → u < length before)
-      → (bit_and (get_or rows (count_trailing_zeros 64 rest) 0) keep ≡ get_or rows (count_trailing_zeros 64 rest) 0 → ⊥)
-      → Now (next rest) (set rows (count_trailing_zeros 64 rest) (bit_and (get_or rows (count_trailing_zeros 64 rest) 0) keep))
-      (bit_or changed ((1 * 2 ^ count_trailing_zeros 64 rest) % 18446744073709551616)) (taken + ones (get_or rows (count_trailing_zeros 64 rest) 0 - bit_and (get_or rows (count_trailing_zeros 64 rest) 0) keep))
-  cutting_step rest changed taken rows h l w ne =
-      let f = h.fits in
-      let lt = (lowest_here rest changed taken rows h w l).0 in
-      let ll = (lowest_here rest changed taken rows h w l).1 in
-      let v : ℕ = count_trailing_zeros 64 rest in
-      let row : ℕ = get_or rows v 0 in
-      let x : ℕ = bit_and row keep in
-      let parts : (b : ℕ) → bit x b ≡ true → (bit row b ≡ true) × (bit keep b ≡ true) = λ b t. and_parts (bit row b) (bit keep b) (sym (bit_of_and row keep b) ∙ t) in
-      let less : ones (row - x) + ones x ≡ ones row = ones_minus row keep in
-      let here : get_or (set rows v x) v 0 ≡ x = get_or-set_same rows v x 0 ll in
-      let set_here : (u b : ℕ) → u ≡ v → bit (get_or (set rows v x) u 0) b ≡ bit x b = λ u b z. ap (λ (w : ℕ). bit (get_or (set rows v x) w 0) b) z ∙ ap (λ (y : ℕ). bit y b) here in
-      let set_there : (u b : ℕ) → (u ≡ v → ⊥) → bit (get_or (set rows v x) u 0) b ≡ bit (get_or rows u 0) b = λ u b nz. ap (λ (y : ℕ). bit y b) (get_or-set_other rows v u x 0 nz) in
-      let p = pair_count_set rows v x ll in
-      record {
-        many = length-set rows v x ∙ h.many;
-        fits = next_fits rest f;
-        left = λ u t. h.left u (next_left rest u l f t);
-        inside = λ u b t. elim (cases_eq u v) [
-          | inl z ↦ h.inside u b (ap (λ (w : ℕ). bit (get_or rows w 0) b) z ∙ (parts b (sym (set_here u b z) ∙ t)).0)
-          | inr nz ↦ h.inside u b (sym (set_there u b nz) ∙ t)
-        ];
-        keeps = λ u b t i. elim (cases_eq u v) [
-          | inl z ↦ set_here u b z ∙ (bit_of_and row keep b ∙ and_from (bit row b) (bit keep b) (ap (λ (w : ℕ). bit (get_or rows w 0) b) (sym z) ∙ h.keeps u b t i) (i (ap (bit units) z ∙ h.left v (bit_lowest 64 rest l f))))
-          | inr nz ↦ set_there u b nz ∙ h.keeps u b t i
-        ];
-        cuts = λ u b i o t. elim (cases_eq u v) [
-          | inl z ↦ (parts b (sym (set_here u b z) ∙ t)).1
-          | inr nz ↦ elim (next_off rest u l f o) [
-            | inl s ↦ h.cuts u b i s (sym (set_there u b nz) ∙ t)
-            | inr z ↦ absurd (nz z)
+    next_off : (w : ℕ) → bit next w ≡ false → (bit rest w ≡ false) ⊎ (w ≡ u)
+    next_off w t =
+        elim (cases_eq w u) [
+          | inl z ↦ inr z
+          | inr nz ↦ elim (cases_Bool (bit rest w)) [
+            | inl s ↦ absurd (both_ways (bit next w) t (n.but w ∙ and_from (bit rest w) (not (eqb w u)) s (not_from_false (eqb w u) (ne_eqb w u nz))))
+            | inr s ↦ inl s
           ]
-        ];
-        same = λ u o.
-            let q = or_none (bit changed u) (eqb v u) (sym (bit_more changed v u lt) ∙ o) in
-            get_or-set_other rows v u x 0 (λ z. both_ways (eqb v u) q.1 (eq-eqb v u (sym z))) ∙ h.same u q.0;
-        only = λ u o. elim (or_cases (bit changed u) (eqb v u) (sym (bit_more changed v u lt) ∙ o)) [
-          | inl s ↦ h.only u s
-          | inr s ↦ ap (bit units) (sym (eqb-true v u s)) ∙ h.left v (bit_lowest 64 rest l f)
-        ];
-        counted = omega (arith, h.counted);
-        still = λ z. absurd (ne (ones_same row x row (below_pow row) (λ b t. (parts b t).0) (omega arith)));
-      }
+        ]
 
-  -- the pairs taken away were among those there
-  pub step_few : (rest changed taken : ℕ) (rows : List ℕ) → Now rest rows changed taken → 0 < rest → ((u : ℕ) → bit units u ≡ true → u < length before)
-      → (bit_and (get_or rows (count_trailing_zeros 64 rest) 0) keep ≡ get_or rows (count_trailing_zeros 64 rest) 0 → ⊥) → pair_count before ≤ 1536
-      → taken + ones (get_or rows (count_trailing_zeros 64 rest) 0 - bit_and (get_or rows (count_trailing_zeros 64 rest) 0) keep) ≤ 1536
-  step_few rest changed taken rows h l w ne f = omega (arith, (cutting_step rest changed taken rows h l w ne).counted)
+    -- its row is inside `keep` already
+    pub cutting_pass : bit_and row keep ≡ row → Now next rows changed taken
+    cutting_pass e = record {
+      many = h.many;
+      left = λ w t. h.left w (next_left w t);
+      inside = h.inside;
+      keeps = h.keeps;
+      cuts = λ w b i o t. elim (next_off w o) [
+        | inl s ↦ h.cuts w b i s t
+        | inr z ↦ (and_parts (bit row b) (bit keep b) (sym (bit_of_and row keep b) ∙ (ap (λ (x : ℕ). bit x b) e ∙ (ap (λ (v : ℕ). bit (get_or rows v 0) b) (sym z) ∙ t)))).1
+      ];
+      same = h.same;
+      only = h.only;
+      counted = h.counted;
+      still = h.still;
+    }
+
+    -- it is not: the row is cut
+    pub cutting_step : ((w : ℕ) → bit units w ≡ true → w < length before) → (bit_and row keep ≡ row → ⊥)
+        → Now next (set rows u (bit_and row keep)) (bit_or changed ((1 * 2 ^ u) % 18446744073709551616)) (taken + ones (row - bit_and row keep))
+    cutting_step w ne =
+        let ll = lowest_here w in
+        let x : ℕ = bit_and row keep in
+        let parts : (b : ℕ) → bit x b ≡ true → (bit row b ≡ true) × (bit keep b ≡ true) = λ b t. and_parts (bit row b) (bit keep b) (sym (bit_of_and row keep b) ∙ t) in
+        let less : ones (row - x) + ones x ≡ ones row = ones_minus row keep in
+        let here : get_or (set rows u x) u 0 ≡ x = get_or-set_same rows u x 0 ll in
+        let set_here : (v b : ℕ) → v ≡ u → bit (get_or (set rows u x) v 0) b ≡ bit x b = λ v b z. ap (λ (w : ℕ). bit (get_or (set rows u x) w 0) b) z ∙ ap (λ (y : ℕ). bit y b) here in
+        let set_there : (v b : ℕ) → (v ≡ u → ⊥) → bit (get_or (set rows u x) v 0) b ≡ bit (get_or rows v 0) b = λ v b nz. ap (λ (y : ℕ). bit y b) (get_or-set_other rows u v x 0 nz) in
+        let p = pair_count_set rows u x ll in
+        record {
+          many = length-set rows u x ∙ h.many;
+          left = λ v t. h.left v (next_left v t);
+          inside = λ v b t. elim (cases_eq v u) [
+            | inl z ↦ h.inside v b (ap (λ (w : ℕ). bit (get_or rows w 0) b) z ∙ (parts b (sym (set_here v b z) ∙ t)).0)
+            | inr nz ↦ h.inside v b (sym (set_there v b nz) ∙ t)
+          ];
+          keeps = λ v b t i. elim (cases_eq v u) [
+            | inl z ↦ set_here v b z ∙ (bit_of_and row keep b ∙ and_from (bit row b) (bit keep b) (ap (λ (w : ℕ). bit (get_or rows w 0) b) (sym z) ∙ h.keeps v b t i) (i (ap (bit units) z ∙ h.left u n.held)))
+            | inr nz ↦ set_there v b nz ∙ h.keeps v b t i
+          ];
+          cuts = λ v b i o t. elim (cases_eq v u) [
+            | inl z ↦ (parts b (sym (set_here v b z) ∙ t)).1
+            | inr nz ↦ elim (next_off v o) [
+              | inl s ↦ h.cuts v b i s (sym (set_there v b nz) ∙ t)
+              | inr z ↦ absurd (nz z)
+            ]
+          ];
+          same = λ v o.
+              let q = or_none (bit changed v) (eqb u v) (sym (bit_more changed u v n.under) ∙ o) in
+              get_or-set_other rows u v x 0 (λ z. both_ways (eqb u v) q.1 (eq-eqb u v (sym z))) ∙ h.same v q.0;
+          only = λ v o. elim (or_cases (bit changed v) (eqb u v) (sym (bit_more changed u v n.under) ∙ o)) [
+            | inl s ↦ h.only v s
+            | inr s ↦ ap (bit units) (sym (eqb-true u v s)) ∙ h.left u n.held
+          ];
+          counted = omega (arith, h.counted);
+          still = λ z. absurd (ne (ones_same row x row (below_pow row) (λ b t. (parts b t).0) (omega arith)));
+        }
+
+    -- the pairs taken away were among those there
+    pub step_few : ((w : ℕ) → bit units w ≡ true → w < length before) → (bit_and row keep ≡ row → ⊥) → pair_count before ≤ 1536
+        → taken + ones (row - bit_and row keep) ≤ 1536
+    step_few w ne f = omega (arith, (cutting_step w ne).counted)
 
   -- all rows are cut
   pub cut_all : (rest changed taken : ℕ) (rows : List ℕ) → Now rest rows changed taken → rest ≡ 0
@@ -217,14 +196,6 @@ module _ (units keep : ℕ) (before : List ℕ) where
     counted = omega arith;
     still = λ e. refl;
   }
-
-  -- the same facts of rows and counts under other names
-  pub cutting_as : (rest changed changed' taken taken' : ℕ) (rows rows' : List ℕ) → rows' ≡ rows → changed' ≡ changed → taken' ≡ taken
-      → Now rest rows changed taken → Now rest rows' changed' taken'
-  cutting_as rest changed changed' taken taken' rows rows' er ec et h =
-      subst (λ (z : List ℕ). Now rest z changed' taken') (sym er)
-      (subst (λ (z : ℕ). Now rest rows z taken') (sym ec)
-      (subst (λ (z : ℕ). Now rest rows changed z) (sym et) h))
 
 -- rows with no bay at or past n are inside the row of all n bays
 pub inside_all : (n m keep : ℕ) (rows : List ℕ) → n ≤ 64 → all_below n rows ≡ true → m ≡ n → keep ≡ 18446744073709551615 / 2 ^ (64 - m)

@@ -11,7 +11,7 @@ use Rattle.graphs.proofs.Rows.{bit_all, all_but, row_is}
 use Rattle.placements.specs.Agreement.{agrees_if}
 use Rattle.consistency.specs.Support.{any_of}
 use Rattle.consistency.specs.Theory.{bool_ext, any_has, any_some}
-use Rattle.consistency.proofs.Lowest.{lowest_off}
+use Rattle.graphs.proofs.Lowest.{lowest_off}
 
 module _ (r : Graph) (few : r.count ≤ 64) (row : ℕ) where
   abbrev all : ℕ

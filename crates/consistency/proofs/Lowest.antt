@@ -1,4 +1,4 @@
--- A row taken apart from its lowest bay. Assumes nothing.
+-- What a row leaves of another, bay for bay. Assumes nothing.
 use Rattle.std.proofs.Common.{◌≡◌, ℕ, zero, suc, ◌-◌, ◌/◌, ◌%◌, ◌^◌, ◌<◌, ◌≤◌, Bool, true, false, not, ◌&&◌, ◌||◌, eqb, ltb, sym, refl, ap, ◌∙◌, subst, inl, inr, arith, pow_mono}
 use native.Mathlib.Nat.{pow-succ'}
 use lib.Bits.{bit_and, bit_or}
@@ -7,7 +7,8 @@ use Rattle.std.proofs.lemmas.Bool.{both_ways, false≢true, ne_eqb, lt-ltb, ltb-
 use Rattle.std.proofs.lemmas.Bool.Decides.{nat_tests}
 use Rattle.graphs.specs.Rows.{bit, row_of}
 use Rattle.graphs.specs.Graph.{Graph}
-use Rattle.graphs.proofs.Bits.{bit_none, digit_cases, bit_zero, bit_suc, bit_of_and, bit_of_or, bit_lowest, bits_below}
+use Rattle.graphs.proofs.Bits.{bit_none, bit_of_and, bit_of_or}
+use Rattle.graphs.proofs.Lowest.{Turn}
 use Rattle.graphs.proofs.Rows.{bit_all, bit_row_of, row_is}
 use Rattle.placements.specs.Agreement.{agrees_if}
 use Rattle.consistency.specs.Support.{any_of, revised}
@@ -16,39 +17,6 @@ use Rattle.consistency.specs.Theory.{bool_ext, any_has, any_some}
 and_true : (t : Bool) → (t && true) ≡ t
 and_true true = refl
 and_true false = refl
-
-and_twice : (t : Bool) → (t && t) ≡ t
-and_twice true = refl
-and_twice false = refl
-
--- x & (x - 1) is x without its lowest bit
-pub lowest_off : (k x : ℕ) → 0 < x → x < 2 ^ k → (c : ℕ) → bit (bit_and x (x - 1)) c ≡ (bit x c && not (eqb c (count_trailing_zeros k x)))
-unfolding count_trailing_zeros
-lowest_off zero x l h c = absurd (omega arith)
-lowest_off (suc k) x l h c =
-    bit_of_and x (x - 1) c
-    ∙ elim (digit_cases (x % 2) (omega arith)) [
-      | inr z ↦ odd z c ∙ sym (ap (λ (d : ℕ). bit x c && not (eqb c (under d (count_trailing_zeros k (x / 2))))) z)
-      | inl z ↦ even z (λ d. lowest_off k (x / 2) (omega arith) (omega (arith, pow-succ' 2 k)) d) c ∙ sym (ap (λ (d : ℕ). bit x c && not (eqb c (under d (count_trailing_zeros k (x / 2))))) z)
-    ]
-  where
-    odd : x % 2 ≡ 1 → (c : ℕ) → (bit x c && bit (x - 1) c) ≡ (bit x c && not (eqb c 0))
-    odd z zero = ap (λ (t : Bool). bit x 0 && t) (bit_zero (x - 1) ∙ ne_eqb ((x - 1) % 2) 1 (λ e. omega arith))
-    odd z (suc d) =
-        ap (λ (t : Bool). bit x (suc d) && t) (bit_suc (x - 1) d ∙ ap (λ (y : ℕ). bit y d) (let e : (x - 1) / 2 ≡ x / 2 = omega arith in e) ∙ sym (bit_suc x d))
-        ∙ and_twice (bit x (suc d)) ∙ sym (ap (λ (t : Bool). bit x (suc d) && not t) (ne_eqb (suc d) 0 (λ e. omega arith)) ∙ and_true (bit x (suc d)))
-
-    even : x % 2 ≡ 0 → ((d : ℕ) → bit (bit_and (x / 2) (x / 2 - 1)) d ≡ (bit (x / 2) d && not (eqb d (count_trailing_zeros k (x / 2))))) → (c : ℕ) → (bit x c && bit (x - 1) c) ≡ (bit x c && not (eqb c (suc (count_trailing_zeros k (x / 2)))))
-    even z ih zero =
-        let f : bit x 0 ≡ false = bit_zero x ∙ ne_eqb (x % 2) 1 (λ e. omega arith) in
-        and_left (bit x 0) (bit (x - 1) 0) f ∙ sym (and_left (bit x 0) (not (eqb 0 (suc (count_trailing_zeros k (x / 2))))) f)
-    even z ih (suc d) =
-        ap (λ (t : Bool). t && bit (x - 1) (suc d)) (bit_suc x d)
-        ∙ ap (λ (t : Bool). bit (x / 2) d && t) (bit_suc (x - 1) d ∙ ap (λ (y : ℕ). bit y d) (let e : (x - 1) / 2 ≡ x / 2 - 1 = omega arith in e))
-        ∙ sym (bit_of_and (x / 2) (x / 2 - 1) d)
-        ∙ ih d
-        ∙ ap (λ (t : Bool). t && not (eqb d (count_trailing_zeros k (x / 2)))) (sym (bit_suc x d))
-        ∙ ap (λ (t : Bool). bit x (suc d) && not t) (let e : eqb d (count_trailing_zeros k (x / 2)) ≡ eqb (suc d) (suc (count_trailing_zeros k (x / 2))) = grind (arith, nat_tests) in e)
 
 any_eq : (x y n : ℕ) (p : ℕ → Bool) → ((c : ℕ) → c < n → bit x c ≡ bit y c) → any_of x n p ≡ any_of y n p
 any_eq x y n p e =
@@ -92,9 +60,6 @@ module _ (r : Graph) (few : r.count ≤ 64) (out back k : Bool) (row other : ℕ
             ∙ sym (ap (λ (t : Bool). t || (below b && (bit row b && any_of (bit_and other (mask r.count)) r.count (agree b)))) (bit_none b));
       })
 
-  pub rest_fits : (rest found : ℕ) → Apart r out back k row other rest found → rest < 2 ^ 64
-  rest_fits rest found h = let b = bits_below r.count rest h.under in let m : 2 ^ r.count ≤ 2 ^ 64 = pow_mono few in omega arith
-
   regroup : (o l w p x : Bool) → (o || (l && (w && (p || x)))) ≡ ((o || (w && (l && p))) || (l && (w && x)))
   regroup true l w p x = refl
   regroup false false false p x = refl
@@ -103,24 +68,20 @@ module _ (r : Graph) (few : r.count ≤ 64) (out back k : Bool) (row other : ℕ
   regroup false true true true x = refl
   regroup false true true false x = refl
 
-  pub apart_more : (rest found x : ℕ) → Apart r out back k row other rest found → 0 < rest
-      → x ≡ row_of r.count (λ b. agree b (count_trailing_zeros 64 rest)) → Apart r out back k row other (bit_and rest (rest - 1)) (bit_or found (bit_and row x))
-  apart_more rest found x h l is =
-      let c : ℕ = count_trailing_zeros 64 rest in
-      let fits = rest_fits rest found h in
-      let e : bit rest c ≡ true = bit_lowest 64 rest l fits in
-      let next : ℕ = bit_and rest (rest - 1) in
-      let inn : (d : ℕ) → bit next d ≡ true → bit rest d ≡ true = λ d t. (and_parts (bit rest d) (not (eqb d c)) (sym (lowest_off 64 rest l fits d) ∙ t)).0 in
+  pub apart_more : {rest c next found x : ℕ} → Turn rest c next → Apart r out back k row other rest found
+      → x ≡ row_of r.count (λ b. agree b c) → Apart r out back k row other next (bit_or found (bit_and row x))
+  apart_more {rest} {c} {next} {found} {x} n h is =
+      let inn : (d : ℕ) → bit next d ≡ true → bit rest d ≡ true = λ d t. (and_parts (bit rest d) (not (eqb d c)) (sym (n.but d) ∙ t)).0 in
       let split : (p : ℕ → Bool) → any_of rest r.count p ≡ (p c || any_of next r.count p) = λ p.
       bool_ext (any_of rest r.count p) (p c || any_of next r.count p)
       (λ t. let q = any_some rest r.count p t in
       elim (cases_eq q.at c) [
         | inl z ↦ or_left (p c) (any_of next r.count p) (subst (λ (d : ℕ). p d ≡ true) z q.passes)
         | inr nz ↦ or_right (p c) (any_of next r.count p) (any_has next r.count p q.at q.under
-            (lowest_off 64 rest l fits q.at ∙ and_from (bit rest q.at) (not (eqb q.at c)) q.held (not_from_false (eqb q.at c) (ne_eqb q.at c nz))) q.passes)
+            (n.but q.at ∙ and_from (bit rest q.at) (not (eqb q.at c)) q.held (not_from_false (eqb q.at c) (ne_eqb q.at c nz))) q.passes)
       ])
       (λ t. elim (or_cases (p c) (any_of next r.count p) t) [
-        | inl y ↦ any_has rest r.count p c (h.under c e) e y
+        | inl y ↦ any_has rest r.count p c (h.under c n.held) n.held y
         | inr y ↦ let q = any_some next r.count p y in any_has rest r.count p q.at q.under (inn q.at q.held) q.passes
       ]) in
       record {

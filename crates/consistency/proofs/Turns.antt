@@ -11,11 +11,13 @@ use Rattle.placements.specs.Agreement.{agrees_if, agrees}
 use Rattle.placements.proofs.Masks.{bit_full, others_low}
 use Rattle.filters.specs.Filter.{shaped, pair_count, empty_count, Inside}
 use Rattle.filters.specs.Shapes.{shape_of, shaped_kept}
+use Rattle.placements.specs.declared.Joined.{Joined}
 use Rattle.consistency.specs.declared.Cut.{Cut}
 use Rattle.consistency.specs.Cut.{CutTo, SomeEmpty}
 use Rattle.consistency.specs.Support.{Arc, SupportedBut, Greatest, any_of, revised}
 use Rattle.consistency.specs.Theory.{any_has, any_some}
-use Rattle.consistency.proofs.Lowest.{lowest_off, bit_mask}
+use Rattle.graphs.proofs.Lowest.{lowest_off}
+use Rattle.consistency.proofs.Lowest.{bit_mask}
 use Rattle.consistency.proofs.Cuts.{or_none}
 use Rattle.consistency.proofs.Steps.{Thinned, thin_none, thin_here, thin_both, thin_rises}
 
@@ -30,11 +32,18 @@ code_below true false = omega arith
 code_below false true = omega arith
 code_below false false = omega arith
 
-code_parts : (s t : Bool) (n : ℕ) → n ≡ code s t → (s ≡ eqb (n % 2) 1) × (t ≡ eqb (n / 2) 1)
+-- the ways in that order
+abbrev pub ways : List Joined
+ways = record { out = false; back = false } ∷ record { out = true; back = false } ∷ record { out = false; back = true } ∷ record { out = true; back = true } ∷ []
+
+abbrev pub way : ℕ → Joined
+way n = get_or ways n (record { out = false; back = false })
+
+code_way : (n : ℕ) (s t : Bool) → code s t ≡ n → (s ≡ (way n).out) × (t ≡ (way n).back)
 unfolding code
-code_parts s t n e = subst (λ (m : ℕ). (s ≡ eqb (m % 2) 1) × (t ≡ eqb (m / 2) 1)) (sym e) (go s t)
+code_way n s t e = subst (λ (m : ℕ). (s ≡ (way m).out) × (t ≡ (way m).back)) e (go s t)
   where
-    go : (s t : Bool) → (s ≡ eqb ((cond s 1 0 + cond t 2 0) % 2) 1) × (t ≡ eqb ((cond s 1 0 + cond t 2 0) / 2) 1)
+    go : (s t : Bool) → (s ≡ (way (cond s 1 0 + cond t 2 0)).out) × (t ≡ (way (cond s 1 0 + cond t 2 0)).back)
     go true true = (refl, refl)
     go true false = (refl, refl)
     go false true = (refl, refl)
@@ -57,18 +66,20 @@ pub record Class (a : Graph) (v : ℕ) (out back : Bool) (units : ℕ) : Type 0 
   pub joined_from : (u : ℕ) → bit units u ≡ true → a.joined v u ≡ back
   pub each : (u : ℕ) → u < a.count → (u ≡ v → ⊥) → a.joined u v ≡ out → a.joined v u ≡ back → bit units u ≡ true
 
-pub class_is : (a : Graph) (v m : ℕ) (out back : Bool) (from to units : ℕ) → m ≡ a.count → m ≤ 64 → v < 64
+pub class_is : (a r : Graph) (rows : List ℕ) → shaped a r rows ≡ true → {v : ℕ} → v < a.count → {out back : Bool} {from to units : ℕ}
     → from ≡ row_of a.count (λ u. a.joined u v) → to ≡ row_of a.count (λ u. a.joined v u)
-    → ((u : ℕ) → bit units u ≡ (bit (bit_and (18446744073709551615 / 2 ^ (64 - m)) (18446744073709551615 - (1 * 2 ^ v) % 18446744073709551616)) u
+    → ((u : ℕ) → bit units u ≡ (bit (bit_and (18446744073709551615 / 2 ^ (64 - length rows)) (18446744073709551615 - (1 * 2 ^ v) % 18446744073709551616)) u
     && (cond out (bit from u) (not (bit from u)) && cond back (bit to u) (not (bit to u)))))
     → Class a v out back units
-class_is a v m out back from to units em few lv ef et is =
+class_is a r rows e {v} lv {out} {back} {from} {to} {units} ef et is =
+    let s = shape_of a r rows e in
+    let m : ℕ = length rows in
     let others : ℕ → Bool = λ u. bit (bit_and (18446744073709551615 / 2 ^ (64 - m)) (18446744073709551615 - (1 * 2 ^ v) % 18446744073709551616)) u in
     let x : ℕ → Bool = λ u. cond out (bit from u) (not (bit from u)) in
     let y : ℕ → Bool = λ u. cond back (bit to u) (not (bit to u)) in
     let split : (u : ℕ) → bit units u ≡ true → (others u ≡ true) × (x u && y u) ≡ true = λ u t. and_parts (others u) (x u && y u) (sym (is u) ∙ t) in
-    let part : (u : ℕ) → bit units u ≡ true → (ltb u m ≡ true) × (not (eqb u v) ≡ true) = λ u t. and_parts (ltb u m) (not (eqb u v)) (sym (others_low m v few lv u) ∙ (split u t).0) in
-    let under : (u : ℕ) → bit units u ≡ true → u < a.count = λ u t. omega (arith, ltb-true u m (part u t).0) in
+    let part : (u : ℕ) → bit units u ≡ true → (ltb u m ≡ true) × (not (eqb u v) ≡ true) = λ u t. and_parts (ltb u m) (not (eqb u v)) (sym (others_low m v (omega (arith, s.many, s.few)) (omega (arith, s.few)) u) ∙ (split u t).0) in
+    let under : (u : ℕ) → bit units u ≡ true → u < a.count = λ u t. omega (arith, s.many, ltb-true u m (part u t).0) in
     let row : (p : ℕ → Bool) (w u : ℕ) → w ≡ row_of a.count p → u < a.count → bit w u ≡ p u = λ p w u e l.
     ap (λ (z : ℕ). bit z u) e ∙ (bit_row_of a.count p u ∙ ap (λ (s : Bool). s && p u) (lt-ltb u a.count l)) in
     record {
@@ -77,7 +88,7 @@ class_is a v m out back from to units em few lv ef et is =
       joined_to = λ u t. sym (row (λ w. a.joined w v) from u ef (under u t)) ∙ is_of out (bit from u) (and_parts (x u) (y u) (split u t).1).0;
       joined_from = λ u t. sym (row (λ w. a.joined v w) to u et (under u t)) ∙ is_of back (bit to u) (and_parts (x u) (y u) (split u t).1).1;
       each = λ u l ne eo eb. is u ∙ and_from (others u) (x u && y u)
-          (others_low m v few lv u ∙ and_from (ltb u m) (not (eqb u v)) (lt-ltb u m (omega arith)) (not_from_false (eqb u v) (ne_eqb u v ne)))
+          (others_low m v (omega (arith, s.many, s.few)) (omega (arith, s.few)) u ∙ and_from (ltb u m) (not (eqb u v)) (lt-ltb u m (omega (arith, s.many))) (not_from_false (eqb u v) (ne_eqb u v ne)))
           (and_from (x u) (y u)
           (of_is out (bit from u) (row (λ w. a.joined w v) from u ef l ∙ eo))
           (of_is back (bit to u) (row (λ w. a.joined v w) to u et l ∙ eb)));
@@ -93,13 +104,18 @@ pub record Turned (a r : Graph) (k : Bool) (v : ℕ) (xs : List ℕ) (old x : �
   pub arcs : (u : ℕ) → u < a.count → (u ≡ v → ⊥) → code (a.joined u v) (a.joined v u) < class → Arc a r k ys u v
   pub still : y ≡ x → changed ≡ old
 
+-- at the end
+pub record Settled (a r : Graph) (k : Bool) (first : ℕ) (shown last : List ℕ) (total : ℕ) : Type 0 where
+  pub taken : total + pair_count last ≡ pair_count shown
+  pub greatest : SupportedBut a r k first shown → Greatest a r k shown last
+
 -- between turns
 pub record Sweeping (a r : Graph) (k : Bool) (first : ℕ) (shown rows : List ℕ) (changed taken : ℕ) : Type 0 where
   pub thin : Thinned a r k shown 0 rows taken
   pub within : (w : ℕ) → bit changed w ≡ true → w < a.count
   pub but : SupportedBut a r k first shown → SupportedBut a r k changed rows
 
-module _ (a r : Graph) (few : r.count ≤ 64) (k : Bool) where
+module _ (a r : Graph) (k : Bool) where
   arc_kept : (ys zs : List ℕ) (u w : ℕ) → Inside zs ys → get_or zs w 0 ≡ get_or ys w 0 → Arc a r k ys u w → Arc a r k zs u w
   arc_kept ys zs u w i e h b t =
       let g = h b (i u b t) in
@@ -111,22 +127,22 @@ module _ (a r : Graph) (few : r.count ≤ 64) (k : Bool) where
       (sym (bit_row_of r.count (λ c. bit row c && any_of other r.count (agrees_if r out back k c)) b) ∙ t) in
       (and_parts (bit row b) (any_of other r.count (agrees_if r out back k b)) p.1).1
 
-  any_keep : (out back : Bool) (other b : ℕ) → b < r.count → any_of other r.count (agrees_if r out back k b) ≡ true
+  any_keep : r.count ≤ 64 → (out back : Bool) (other b : ℕ) → b < r.count → any_of other r.count (agrees_if r out back k b) ≡ true
       → bit (revised r out back k 18446744073709551615 other) b ≡ true
-  any_keep out back other b l e =
+  any_keep few out back other b l e =
       bit_row_of r.count (λ c. bit 18446744073709551615 c && any_of other r.count (agrees_if r out back k c)) b
       ∙ and_from (ltb b r.count) (bit 18446744073709551615 b && any_of other r.count (agrees_if r out back k b)) (lt-ltb b r.count l)
       (and_from (bit 18446744073709551615 b) (any_of other r.count (agrees_if r out back k b)) (bit_full b (omega arith)) e)
 
-  module _ (v : ℕ) (lv : v < a.count) (out back : Bool) (units : ℕ) (cl : Class a v out back units) (ys zs : List ℕ) (cut : Cut)
+  module _ {v : ℕ} (lv : v < a.count) {out back : Bool} {units : ℕ} (cl : Class a v out back units) {ys zs : List ℕ} {cut : Cut}
       (len : length zs ≡ length ys) (sh : shaped a r ys ≡ true) (h : CutTo units (revised r out back k 18446744073709551615 (get_or ys v 0)) ys zs cut) where
     -- the supports that the class has at v, in the terms of its joints
     agree_is : (u b c : ℕ) → bit units u ≡ true → agrees a r k u b v c ≡ agrees_if r out back k b c
     agree_is u b c t =
         ap (λ (s : Bool). agrees_if r s (a.joined v u) k b c) (cl.joined_to u t) ∙ ap (λ (s : Bool). agrees_if r out s k b c) (cl.joined_from u t)
 
-    pub cut_thin : (y : ℕ) → y + pair_count ys ≤ 1536 → Thinned a r k ys y zs (y + cut.taken)
-    cut_thin y small =
+    pub cut_thin : r.count ≤ 64 → (y : ℕ) → y + pair_count ys ≤ 1536 → Thinned a r k ys y zs (y + cut.taken)
+    cut_thin few y small =
         let s = shape_of a r ys sh in
         record {
           shape = shaped_kept a r ys zs sh len h.inside;
@@ -134,7 +150,7 @@ module _ (a r : Graph) (few : r.count ≤ 64) (k : Bool) where
           inside = h.inside;
           most = λ other su i w b t. h.keeps w b (i w b t) (λ tu.
               let g = su w v (cl.below w tu) lv (cl.other w tu) b t in
-              any_keep out back (get_or ys v 0) b (s.under w b (i w b t))
+              any_keep few out back (get_or ys v 0) b (s.under w b (i w b t))
               (any_has (get_or ys v 0) r.count (agrees_if r out back k b) g.bay (s.under v g.bay (i v g.bay g.held)) (i v g.bay g.held)
               (sym (agree_is w b g.bay tu) ∙ g.agreeing)));
           counted = omega (arith, h.counted);
@@ -152,41 +168,54 @@ module _ (a r : Graph) (few : r.count ≤ 64) (k : Bool) where
         let q = any_some (get_or ys v 0) r.count (agrees_if r out back k b) (keep_any out back 18446744073709551615 (get_or ys v 0) b (h.cuts e u b tu t)) in
         record { bay = q.at; held = ap (λ (x : ℕ). bit x q.at) cut_here ∙ q.held; agreeing = agree_is u b q.at tu ∙ q.passes }
 
-  abbrev next : ℕ → ℕ
-  next changed = bit_and changed (changed - 1)
+abbrev next : ℕ → ℕ
+next changed = bit_and changed (changed - 1)
 
-  pub changed_fits : (changed : ℕ) → a.count ≤ 64 → ((w : ℕ) → bit changed w ≡ true → w < a.count) → changed < 2 ^ 64
-  changed_fits changed l h = let b = bits_below a.count changed h in let m : 2 ^ a.count ≤ 2 ^ 64 = pow_mono l in omega arith
+changed_fits : (n changed : ℕ) → n ≤ 24 → ((w : ℕ) → bit changed w ≡ true → w < n) → changed < 2 ^ 64
+changed_fits n changed few h = let b = bits_below n changed h in let m : 2 ^ n ≤ 2 ^ 64 = pow_mono (let l : n ≤ 64 = omega arith in l) in omega arith
 
-  module _ (la : a.count ≤ 64) (first : ℕ) (shown : List ℕ) where
+next_parts : (changed w : ℕ) → 0 < changed → changed < 2 ^ 64 → bit (next changed) w ≡ true → bit changed w ≡ true
+next_parts changed w l f t = (and_parts (bit changed w) (not (eqb w (count_trailing_zeros 64 changed))) (sym (lowest_off 64 changed l f w) ∙ t)).0
+
+module _ {a r : Graph} {k : Bool} where
+  -- each turn leaves fewer pairs, or as many and a shorter work list
+  pub turn_less : {xs ys : List ℕ} {changed x now y class : ℕ} → 0 < changed
+      → Turned a r k (count_trailing_zeros 64 changed) xs (next changed) x ys now y class
+      → 18446744073709551616 * pair_count ys + now < 18446744073709551616 * pair_count xs + changed
+  turn_less {xs} {ys} {changed} {x} {now} {y} l t =
+      let up = thin_rises a r k xs ys x y t.thin in
+      let f = changed_fits a.count now (shape_of a r ys t.thin.shape).few t.within in
+      elim (cases_eq y x) [
+        | inl e ↦ omega (arith, t.thin.counted, t.still e, and_le_r changed (changed - 1))
+        | inr ne ↦ omega (arith, t.thin.counted)
+      ]
+
+  module _ {first : ℕ} {shown : List ℕ} where
     -- the unit that is taken out of the work list
-    pub lowest_unit : (xs : List ℕ) (changed x : ℕ) → Sweeping a r k first shown xs changed x → 0 < changed
+    pub lowest_unit : {xs : List ℕ} {changed x : ℕ} → Sweeping a r k first shown xs changed x → 0 < changed
         → (count_trailing_zeros 64 changed < a.count) × (count_trailing_zeros 64 changed < length xs)
-    lowest_unit xs changed x h l =
+    lowest_unit {xs} {changed} h l =
         let v : ℕ = count_trailing_zeros 64 changed in
-        let lv : v < a.count = h.within v (bit_lowest 64 changed l (changed_fits changed la h.within)) in
+        let lv : v < a.count = h.within v (bit_lowest 64 changed l (changed_fits a.count changed (shape_of a r xs h.thin.shape).few h.within)) in
         (lv, omega (arith, (shape_of a r xs h.thin.shape).many))
 
-    next_parts : (changed w : ℕ) → 0 < changed → changed < 2 ^ 64 → bit (next changed) w ≡ true → bit changed w ≡ true
-    next_parts changed w l f t = (and_parts (bit changed w) (not (eqb w (count_trailing_zeros 64 changed))) (sym (lowest_off 64 changed l f w) ∙ t)).0
-
-    pub turn_start : (xs : List ℕ) (changed x : ℕ) → Sweeping a r k first shown xs changed x → 0 < changed
+    pub turn_start : {xs : List ℕ} {changed x : ℕ} → Sweeping a r k first shown xs changed x → 0 < changed
         → Turned a r k (count_trailing_zeros 64 changed) xs (next changed) x xs (next changed) x 0
-    turn_start xs changed x h l = record {
+    turn_start {xs} {changed} {x} h l = record {
       thin = thin_here a r k shown xs 0 x h.thin;
       here = refl;
       kept = λ w t. (t, refl);
-      within = λ w t. h.within w (next_parts changed w l (changed_fits changed la h.within) t);
+      within = λ w t. h.within w (next_parts changed w l (changed_fits a.count changed (shape_of a r xs h.thin.shape).few h.within) t);
       arcs = λ u lu ne c. absurd (omega arith);
       still = λ e. refl;
     }
 
     -- all classes are done
-    pub turn_end : (xs ys : List ℕ) (changed x now y class : ℕ) → Sweeping a r k first shown xs changed x → 0 < changed
+    pub turn_end : {xs ys : List ℕ} {changed x now y class : ℕ} → Sweeping a r k first shown xs changed x → 0 < changed
         → Turned a r k (count_trailing_zeros 64 changed) xs (next changed) x ys now y class → class ≡ 4 → Sweeping a r k first shown ys now y
-    turn_end xs ys changed x now y class h l t e =
+    turn_end {xs} {ys} {changed} {x} {now} {y} h l t e =
         let v : ℕ = count_trailing_zeros 64 changed in
-        let f = changed_fits changed la h.within in
+        let f = changed_fits a.count changed (shape_of a r xs h.thin.shape).few h.within in
         record {
           thin = thin_both a r k shown xs ys 0 x y h.thin t.thin;
           within = t.within;
@@ -195,7 +224,7 @@ module _ (a r : Graph) (few : r.count ≤ 64) (k : Bool) where
                 (t.arcs u lu (λ q. ne (q ∙ sym z)) (let c = code_below (a.joined u v) (a.joined v u) in omega arith))
             | inr nz ↦
                 let q = t.kept w o in
-                arc_kept xs ys u w t.thin.inside q.1 (h.but p u w lu lw ne
+                arc_kept a r k xs ys u w t.thin.inside q.1 (h.but p u w lu lw ne
                 (elim (cases_Bool (bit changed w)) [
                   | inl s ↦ absurd (both_ways (bit (next changed) w) q.0
                       (lowest_off 64 changed l f w ∙ and_from (bit changed w) (not (eqb w v)) s (not_from_false (eqb w v) (ne_eqb w v nz))))
@@ -204,35 +233,24 @@ module _ (a r : Graph) (few : r.count ≤ 64) (k : Bool) where
           ];
         }
 
-    -- each turn leaves fewer pairs, or as many and a shorter work list
-    pub turn_less : (xs ys : List ℕ) (changed x now y class : ℕ) → 0 < changed
-        → Turned a r k (count_trailing_zeros 64 changed) xs (next changed) x ys now y class
-        → 18446744073709551616 * pair_count ys + now < 18446744073709551616 * pair_count xs + changed
-    turn_less xs ys changed x now y class l t =
-        let up = thin_rises a r k xs ys x y t.thin in
-        let f = changed_fits now la t.within in
-        elim (cases_eq y x) [
-          | inl e ↦ omega (arith, t.thin.counted, t.still e, and_le_r changed (changed - 1))
-          | inr ne ↦ omega (arith, t.thin.counted)
-        ]
-
     -- the work list is empty
-    pub sweep_end : (rows : List ℕ) (changed taken : ℕ) → Sweeping a r k first shown rows changed taken → changed ≡ 0
-        → (taken + pair_count rows ≡ pair_count shown) × (SupportedBut a r k first shown → Greatest a r k shown rows)
-    sweep_end rows changed taken h z = (
-      omega (arith, h.thin.counted),
-      λ p. record {
+    pub sweep_end : {rows : List ℕ} {changed taken : ℕ} → Sweeping a r k first shown rows changed taken → changed ≡ 0
+        → Settled a r k first shown rows taken
+    sweep_end h z = record {
+      taken = omega (arith, h.thin.counted);
+      greatest = λ p. record {
         as_many = h.thin.many;
         inside = h.thin.inside;
         supported = λ u v lu lv ne. h.but p u v lu lv ne (ap (λ (x : ℕ). bit x v) z ∙ bit_none v);
         most = λ other i s. h.thin.most other s i;
-      },
-    )
+      };
+    }
 
-    pub sweep_start : (m : ℕ) → Sound r → shaped a r shown ≡ true → m ≡ length shown → Sweeping a r k first shown shown (bit_and first (18446744073709551615 / 2 ^ (64 - m))) 0
-    sweep_start m so e is =
+    pub sweep_start : Sound r → shaped a r shown ≡ true → Sweeping a r k first shown shown (bit_and first (18446744073709551615 / 2 ^ (64 - length shown))) 0
+    sweep_start so e =
+        let m : ℕ = length shown in
         let n = (shape_of a r shown e).many in
-        let lm : m ≤ 64 = omega arith in
+        let lm : m ≤ 64 = omega (arith, (shape_of a r shown e).few) in
         record {
           thin = thin_none a r k shown so e;
           within = λ w t. let q = ltb-true w m (and_parts (bit first w) (ltb w m) (sym (bit_mask m first w lm) ∙ t)).1 in omega arith;
@@ -244,24 +262,22 @@ module _ (a r : Graph) (few : r.count ≤ 64) (k : Bool) where
               ]);
         }
 
-  module _ (v : ℕ) (lv : v < a.count) (xs : List ℕ) (old x : ℕ) (ys : List ℕ) (changed y class : ℕ) (t : Turned a r k v xs old x ys changed y class)
-      (units other : ℕ) (is : other ≡ get_or xs v 0) (cl : Class a v (eqb (class % 2) 1) (eqb (class / 2) 1) units) (zs : List ℕ) (cut : Cut) (len : length zs ≡ length ys)
-      (h : CutTo units (revised r (eqb (class % 2) 1) (eqb (class / 2) 1) k 18446744073709551615 other) ys zs cut) where
-    cut_now : CutTo units (revised r (eqb (class % 2) 1) (eqb (class / 2) 1) k 18446744073709551615 (get_or ys v 0)) ys zs cut
-    cut_now = subst (λ (n : ℕ). CutTo units (revised r (eqb (class % 2) 1) (eqb (class / 2) 1) k 18446744073709551615 n) ys zs cut) (is ∙ sym t.here) h
+  module _ (few : r.count ≤ 64) {v : ℕ} (lv : v < a.count) {xs ys : List ℕ} {old x changed y class : ℕ} (t : Turned a r k v xs old x ys changed y class)
+      {units : ℕ} (cl : Class a v (way class).out (way class).back units) {zs : List ℕ} {cut : Cut} (len : length zs ≡ length ys)
+      (h : CutTo units (revised r (way class).out (way class).back k 18446744073709551615 (get_or xs v 0)) ys zs cut) where
+    cut_now : CutTo units (revised r (way class).out (way class).back k 18446744073709551615 (get_or ys v 0)) ys zs cut
+    cut_now = subst (λ (n : ℕ). CutTo units (revised r (way class).out (way class).back k 18446744073709551615 n) ys zs cut) (sym t.here) h
 
     turn_thin : Thinned a r k xs x zs (y + cut.taken)
     turn_thin = thin_both a r k xs ys zs x y (y + cut.taken) t.thin
-        (cut_thin v lv (eqb (class % 2) 1) (eqb (class / 2) 1) units cl ys zs cut len t.thin.shape cut_now y t.thin.small)
+        (cut_thin a r k lv cl len t.thin.shape cut_now few y t.thin.small)
 
-    pub turn_all : (shown : List ℕ) → Thinned a r k shown 0 xs x → Thinned a r k shown 0 zs (y + cut.taken)
-    turn_all shown h = thin_both a r k shown xs zs 0 x (y + cut.taken) h turn_thin
+    pub turn_all : {shown : List ℕ} → Thinned a r k shown 0 xs x → Thinned a r k shown 0 zs (y + cut.taken)
+    turn_all {shown} h = thin_both a r k shown xs zs 0 x (y + cut.taken) h turn_thin
 
     pub turn_more : cut.emptied ≡ false → Turned a r k v xs old x zs (bit_or changed cut.changed) (y + cut.taken) (class + 1)
     turn_more e =
-        let out : Bool = eqb (class % 2) 1 in
-        let back : Bool = eqb (class / 2) 1 in
-        let here : get_or zs v 0 ≡ get_or ys v 0 = cut_here v lv out back units cl ys zs cut len t.thin.shape cut_now in
+        let here : get_or zs v 0 ≡ get_or ys v 0 = cut_here a r k lv cl len t.thin.shape cut_now in
         record {
           thin = turn_thin;
           here = here ∙ t.here;
@@ -275,9 +291,9 @@ module _ (a r : Graph) (few : r.count ≤ 64) (k : Bool) where
           ];
           arcs = λ u lu ne c. elim (cases_eq class (code (a.joined u v) (a.joined v u))) [
             | inl z ↦
-                let q = code_parts (a.joined u v) (a.joined v u) class z in
-                cut_arc v lv out back units cl ys zs cut len t.thin.shape cut_now e u (cl.each u lu ne q.0 q.1)
-            | inr nz ↦ arc_kept ys zs u v h.inside here (t.arcs u lu ne (omega arith))
+                let q = code_way class (a.joined u v) (a.joined v u) (sym z) in
+                cut_arc a r k lv cl len t.thin.shape cut_now e u (cl.each u lu ne q.0 q.1)
+            | inr nz ↦ arc_kept a r k ys zs u v h.inside here (t.arcs u lu ne (omega arith))
           ];
           still = λ z.
               let up = thin_rises a r k xs ys x y t.thin in

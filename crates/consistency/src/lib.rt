@@ -10,9 +10,9 @@ ghost use Rattle.consistency.specs.Cut.{CutTo};
 ghost use Rattle.filters.specs.Filter.{all_below, pair_count, shaped, Counted};
 ghost use Rattle.consistency.specs.Theory.{support_lawful};
 
-use filters::{Counts, Filter, empty_rows, well_shaped};
-use graphs::Source;
-use placements::agreeing;
+use filters::{Counts, Filter, empty_rows, nothing_taken, well_shaped};
+use graphs::{Source, nodes};
+use placements::{Joined, Problem};
 
 // What the meaning of arc consistency is, for every arrangement and room, and in small rooms; answers how many those are.
 pub fn rooms_worked() -> usize
@@ -24,10 +24,10 @@ pub fn rooms_worked() -> usize
 }
 
 // The bays that differ from some bay of the row: all where it has two, all but that one where it has one.
-fn differing<R: Source>(room: &R, row: u64) -> u64
-    ensures { result ≡ row_of (R.Source.graph room.now).count (λ b. any_of row (R.Source.graph room.now).count (agrees_if (R.Source.graph room.now) false false false b)) }
+fn differing<A: Source, R: Source>(problem: &Problem<A, R>, row: u64) -> u64
+    ensures { result ≡ row_of (R.Source.graph problem.now.room.now).count (λ b. any_of row (R.Source.graph problem.now.room.now).count (agrees_if (R.Source.graph problem.now.room.now) false false false b)) }
 {
-    let all = u64::MAX >> (64 - room.count());
+    let all = u64::MAX >> (64 - problem.room.count());
     let held = row & all;
     if held == 0 {
         0
@@ -38,23 +38,25 @@ fn differing<R: Source>(room: &R, row: u64) -> u64
     }
 }
 
-// The bays of the row that agree with some bay of the other row: `out` says whether the first unit is joined to the second,
-// `back` whether the second is joined to the first.
-pub fn revise<R: Source>(room: &R, out: bool, back: bool, strict: bool, row: u64, other: u64) -> u64
-    ensures { result ≡ revised (R.Source.graph room.now) out back strict row other }
+// The bays of the row that agree with some bay of the other row.
+pub fn revise<A: Source, R: Source>(
+    problem: &Problem<A, R>,
+    joined: Joined,
+    row: u64,
+    other: u64,
+) -> u64
+    ensures { result ≡ revised (R.Source.graph problem.now.room.now) joined.out joined.back problem.now.strict row other }
 {
-    if !(out | back | strict) {
-        return row & differing(room, other);
+    if !(joined.out | joined.back | problem.strict) {
+        return row & differing(problem, other);
     }
-    let all = u64::MAX >> (64 - room.count());
+    let all = u64::MAX >> (64 - problem.room.count());
     let mut found: u64 = 0;
-    let mut rest = other & all;
-    while rest != 0 {
-        found |= row & agreeing(room, out, back, strict, rest.trailing_zeros() as usize);
+    for c in nodes(other & all) {
+        found |= row & problem.agreeing(joined, c);
         if found == row & all {
             return found;
         }
-        rest &= rest - 1;
     }
     found
 }
@@ -75,9 +77,7 @@ fn cut_rows(rows: &mut [u64], units: u64, keep: u64) -> Cut
 {
     let mut changed: u64 = 0;
     let mut taken: usize = 0;
-    let mut rest = units;
-    while rest != 0 {
-        let u = rest.trailing_zeros() as usize;
+    for u in nodes(units) {
         let old = rows[u];
         let row = old & keep;
         if row != old {
@@ -92,7 +92,6 @@ fn cut_rows(rows: &mut [u64], units: u64, keep: u64) -> Cut
                 };
             }
         }
-        rest &= rest - 1;
     }
     Cut {
         changed,
@@ -101,30 +100,28 @@ fn cut_rows(rows: &mut [u64], units: u64, keep: u64) -> Cut
     }
 }
 
-// Of the `others`, the units that are joined to a unit (are in `from`) or not, as `out` says, and that it is joined to (are in
-// `to`) or not, as `back` says.
-fn class_of(others: u64, from: u64, to: u64, out: bool, back: bool) -> u64
-    ensures { (u : ℕ) → bit result u ≡ (bit others u && ((if out then bit from u else not (bit from u)) && (if back then bit to u else not (bit to u)))) }
+// Of the `others`, the units that are joined to a unit (are in `from`) or not, as `joined.out` says, and that it is joined to (are
+// in `to`) or not, as `joined.back` says.
+fn class_of(others: u64, from: u64, to: u64, joined: Joined) -> u64
+    ensures { (u : ℕ) → bit result u ≡ (bit others u && ((if joined.out then bit from u else not (bit from u)) && (if joined.back then bit to u else not (bit to u)))) }
 {
-    let first = if out { from } else { !from };
-    let second = if back { to } else { !to };
+    let first = if joined.out { from } else { !from };
+    let second = if joined.back { to } else { !to };
     others & first & second
 }
 
 // Leaves in the rows of the units of one class only the bays that agree with some bay of the other row.
-fn cut_class<R: Source>(
-    room: &R,
-    strict: bool,
-    out: bool,
-    back: bool,
+fn cut_class<A: Source, R: Source>(
+    problem: &Problem<A, R>,
+    joined: Joined,
     units: u64,
     other: u64,
     rows: &mut [u64],
 ) -> Cut
     requires within { (u : ℕ) → bit units u ≡ true → u < length rows.old }
-    requires below { all_below (R.Source.graph room.now).count rows.old ≡ true }
+    requires below { all_below (R.Source.graph problem.now.room.now).count rows.old ≡ true }
     requires few { pair_count rows.old ≤ 1536 }
-    ensures { CutTo units (revised (R.Source.graph room.now) out back strict 18446744073709551615 other) rows.old rows.new result }
+    ensures { CutTo units (revised (R.Source.graph problem.now.room.now) joined.out joined.back problem.now.strict 18446744073709551615 other) rows.old rows.new result }
 {
     let nothing = Cut {
         changed: 0,
@@ -134,8 +131,8 @@ fn cut_class<R: Source>(
     if units == 0 {
         return nothing;
     }
-    let keep = revise(room, out, back, strict, u64::MAX, other);
-    if keep == u64::MAX >> (64 - room.count()) {
+    let keep = revise(problem, joined, u64::MAX, other);
+    if keep == u64::MAX >> (64 - problem.room.count()) {
         return nothing;
     }
     cut_rows(rows, units, keep)
@@ -158,16 +155,10 @@ fn clear(rows: &mut [u64]) -> usize
 // Takes away pairs without support until each has one, and says how many. The work list `changed` holds the units whose rows the
 // others must still be checked against. It begins with those in `first`; where each pair has its supports at the units outside
 // `first`, what is left is the greatest supported rows.
-fn settle<A: Source, R: Source>(
-    arrangement: &A,
-    room: &R,
-    strict: bool,
-    first: u64,
-    rows: &mut [u64],
-) -> usize
-    requires { shaped (A.Source.graph arrangement.now) (R.Source.graph room.now) rows.old ≡ true }
+fn settle<A: Source, R: Source>(problem: &Problem<A, R>, first: u64, rows: &mut [u64]) -> usize
+    requires { shaped (A.Source.graph problem.now.arrangement.now) (R.Source.graph problem.now.room.now) rows.old ≡ true }
     ensures taken { result + pair_count rows.new ≡ pair_count rows.old }
-    ensures greatest { SupportedBut (A.Source.graph arrangement.now) (R.Source.graph room.now) strict first rows.old → Greatest (A.Source.graph arrangement.now) (R.Source.graph room.now) strict rows.old rows.new }
+    ensures greatest { SupportedBut (A.Source.graph problem.now.arrangement.now) (R.Source.graph problem.now.room.now) problem.now.strict first rows.old → Greatest (A.Source.graph problem.now.arrangement.now) (R.Source.graph problem.now.room.now) problem.now.strict rows.old rows.new }
 {
     if empty_rows(rows) != 0 {
         return clear(rows);
@@ -183,13 +174,11 @@ fn settle<A: Source, R: Source>(
         changed &= changed - 1;
         let other = rows[v];
         let others = all & !(1 << v);
-        let from = arrangement.column(v);
-        let to = arrangement.row(v);
-        for class in 0..4_u8 {
-            let out = class % 2 == 1;
-            let back = class / 2 == 1;
-            let units = class_of(others, from, to, out, back);
-            let cut = cut_class(room, strict, out, back, units, other, rows);
+        let from = problem.arrangement.column(v);
+        let to = problem.arrangement.row(v);
+        for joined in Joined::ALL {
+            let units = class_of(others, from, to, joined);
+            let cut = cut_class(problem, joined, units, other, rows);
             changed |= cut.changed;
             taken += cut.taken;
             if cut.emptied {
@@ -202,23 +191,18 @@ fn settle<A: Source, R: Source>(
 
 // Settles the rows against those of the units in `changed`, and counts. Rows of another shape are left alone.
 fn settle_shaped<A: Source, R: Source>(
-    arrangement: &A,
-    room: &R,
-    strict: bool,
+    problem: &Problem<A, R>,
     changed: u64,
     rows: &mut [u64],
 ) -> Counts
     ensures counts { Counted rows.old rows.new result }
-    ensures greatest { shaped (A.Source.graph arrangement.now) (R.Source.graph room.now) rows.old ≡ true → SupportedBut (A.Source.graph arrangement.now) (R.Source.graph room.now) strict changed rows.old → Greatest (A.Source.graph arrangement.now) (R.Source.graph room.now) strict rows.old rows.new }
-    ensures ill { shaped (A.Source.graph arrangement.now) (R.Source.graph room.now) rows.old ≡ false → rows.new ≡ rows.old }
+    ensures greatest { shaped (A.Source.graph problem.now.arrangement.now) (R.Source.graph problem.now.room.now) rows.old ≡ true → SupportedBut (A.Source.graph problem.now.arrangement.now) (R.Source.graph problem.now.room.now) problem.now.strict changed rows.old → Greatest (A.Source.graph problem.now.arrangement.now) (R.Source.graph problem.now.room.now) problem.now.strict rows.old rows.new }
+    ensures ill { shaped (A.Source.graph problem.now.arrangement.now) (R.Source.graph problem.now.room.now) rows.old ≡ false → rows.new ≡ rows.old }
 {
-    if !well_shaped(arrangement, room, rows) {
-        return Counts {
-            taken: 0,
-            empty: empty_rows(rows),
-        };
+    if !well_shaped(problem, rows) {
+        return nothing_taken(rows);
     }
-    let taken = settle(arrangement, room, strict, changed, rows);
+    let taken = settle(problem, changed, rows);
     Counts {
         taken,
         empty: empty_rows(rows),
@@ -227,19 +211,14 @@ fn settle_shaped<A: Source, R: Source>(
 
 // Leaves the greatest rows inside the shown ones whose every pair has an agreeing pair at every other unit, and answers how many
 // pairs it took away and how many rows are empty. Rows of another shape are left alone.
-pub fn keep_supported<A: Source, R: Source>(
-    arrangement: &A,
-    room: &R,
-    strict: bool,
-    rows: &mut [u64],
-) -> Counts
-    ensures rows { rows.new ≡ support_meaning (A.Source.graph arrangement.now) (R.Source.graph room.now) strict rows.old }
+pub fn keep_supported<A: Source, R: Source>(problem: &Problem<A, R>, rows: &mut [u64]) -> Counts
+    ensures rows { rows.new ≡ support_meaning (A.Source.graph problem.now.arrangement.now) (R.Source.graph problem.now.room.now) problem.now.strict rows.old }
     ensures counts { Counted rows.old rows.new result }
-    ensures greatest { shaped (A.Source.graph arrangement.now) (R.Source.graph room.now) rows.old ≡ true → Greatest (A.Source.graph arrangement.now) (R.Source.graph room.now) strict rows.old rows.new }
-    ensures emptied { shaped (A.Source.graph arrangement.now) (R.Source.graph room.now) rows.old ≡ true → AllOrNone rows.new }
-    ensures ill { shaped (A.Source.graph arrangement.now) (R.Source.graph room.now) rows.old ≡ false → rows.new ≡ rows.old }
+    ensures greatest { shaped (A.Source.graph problem.now.arrangement.now) (R.Source.graph problem.now.room.now) rows.old ≡ true → Greatest (A.Source.graph problem.now.arrangement.now) (R.Source.graph problem.now.room.now) problem.now.strict rows.old rows.new }
+    ensures emptied { shaped (A.Source.graph problem.now.arrangement.now) (R.Source.graph problem.now.room.now) rows.old ≡ true → AllOrNone rows.new }
+    ensures ill { shaped (A.Source.graph problem.now.arrangement.now) (R.Source.graph problem.now.room.now) rows.old ≡ false → rows.new ≡ rows.old }
 {
-    settle_shaped(arrangement, room, strict, u64::MAX, rows)
+    settle_shaped(problem, u64::MAX, rows)
 }
 
 // Arc consistency as a filter.
@@ -251,25 +230,17 @@ impl Filter for ArcConsistency {
 
     ghost lawful = { λ f. support_lawful };
 
-    fn apply<A: Source, R: Source>(
-        &self,
-        arrangement: &A,
-        room: &R,
-        strict: bool,
-        rows: &mut [u64],
-    ) -> Counts {
-        keep_supported(arrangement, room, strict, rows)
+    fn apply<A: Source, R: Source>(&self, problem: &Problem<A, R>, rows: &mut [u64]) -> Counts {
+        keep_supported(problem, rows)
     }
 
     // Rows that were left before have their supports at every unit whose row is as it was.
     fn resume<A: Source, R: Source>(
         &self,
-        arrangement: &A,
-        room: &R,
-        strict: bool,
+        problem: &Problem<A, R>,
         changed: u64,
         rows: &mut [u64],
     ) -> Counts {
-        settle_shaped(arrangement, room, strict, changed, rows)
+        settle_shaped(problem, changed, rows)
     }
 }

@@ -1,5 +1,5 @@
-// Degrees of nodes, and rows of the nodes by their degrees.
-ghost use Rattle.std.specs.Prelude.{◌≡◌, ℕ, ◌+◌, ◌<◌, nat_eq, nat_lt, slice_index};
+// Degrees of nodes, and the nodes of a room by their degrees.
+ghost use Rattle.std.specs.Prelude.{◌≡◌, ℕ, ◌+◌, ◌-◌, ◌<◌, nat_eq, nat_le, nat_lt, slice_index};
 ghost use Rattle.graphs.specs.Rows.{bit, row_of};
 ghost use Rattle.degree.specs.Degree.{all_nodes, degree_within};
 
@@ -20,10 +20,9 @@ pub(crate) fn degree_of<S: Source>(source: &S, node: usize) -> usize
     joint_count(source, u64::MAX, node)
 }
 
-// For each k up to 63 at k + 1, the nodes with exactly k joints.
+// For each k from 1 to 64, the nodes with exactly k - 1 joints.
 fn with_joints<S: Source>(source: &S) -> [u64; 65]
-    ensures none { slice_index result 0 ≡ 0 }
-    ensures exact { (k : ℕ) → k < 64 → slice_index result (k + 1) ≡ row_of (S.Source.graph source.now).count (λ b. nat_eq (degree_within (S.Source.graph source.now) all_nodes b) k) }
+    ensures { (k : ℕ) → k < 65 → slice_index result k ≡ row_of (S.Source.graph source.now).count (λ b. nat_eq (degree_within (S.Source.graph source.now) all_nodes b + 1) k) }
 {
     let mut rows = [0u64; 65];
     for b in 0..source.count() {
@@ -33,12 +32,48 @@ fn with_joints<S: Source>(source: &S) -> [u64; 65]
 }
 
 // For each k up to 64, the nodes with fewer than k joints.
-pub(crate) fn with_fewer<S: Source>(source: &S) -> [u64; 65]
+fn with_fewer<S: Source>(source: &S) -> [u64; 65]
     ensures { (k : ℕ) → k < 65 → slice_index result k ≡ row_of (S.Source.graph source.now).count (λ b. nat_lt (degree_within (S.Source.graph source.now) all_nodes b) k) }
 {
     let mut rows = with_joints(source);
-    for k in 0..64 {
-        rows[k + 1] |= rows[k];
+    let mut fewer = 0;
+    for row in rows.iter_mut() {
+        fewer |= *row;
+        *row = fewer;
     }
     rows
+}
+
+// The bays of a room by their degrees: for each k up to 64, those with fewer than k joints.
+#[derive(Drop)]
+pub(crate) struct Degrees<'a, R: Source> {
+    pub room: &'a R,
+    fewer: [u64; 65],
+    ghost by_degree: { (k : ℕ) → k < 65 → slice_index fewer k ≡ row_of (R.Source.graph room.now).count (λ b. nat_lt (degree_within (R.Source.graph room.now) all_nodes b) k) },
+}
+
+impl<'a, R: Source> Degrees<'a, R> {
+    pub(crate) fn of(room: &'a R) -> Degrees<'a, R>
+        ensures { result.room.now ≡ room.now }
+    {
+        Degrees {
+            room,
+            fewer: with_fewer(room),
+        }
+    }
+
+    // The bays with at least so many joints.
+    pub(crate) fn at_least(&self, joints: usize) -> u64
+        requires { joints < 65 }
+        ensures { (b : ℕ) → b < (R.Source.graph self.now.room.now).count → bit result b ≡ nat_le joints (degree_within (R.Source.graph self.now.room.now) all_nodes b) }
+    {
+        !self.fewer[joints]
+    }
+
+    // The bays that have at least so many others that they are not joined to.
+    pub(crate) fn apart_from(&self, others: usize) -> u64
+        ensures { (b : ℕ) → b < (R.Source.graph self.now.room.now).count → bit result b ≡ nat_le others ((R.Source.graph self.now.room.now).count - 1 - degree_within (R.Source.graph self.now.room.now) all_nodes b) }
+    {
+        self.fewer[self.room.count().saturating_sub(others)]
+    }
 }

@@ -7,6 +7,7 @@ ghost use Rattle.degree.specs.Spared.{degree_lawful};
 use filters::{Counts, Filter, nothing_taken};
 use graphs::Source;
 pub use joints::joint_count;
+use placements::Problem;
 pub use thin::thin_by_degree;
 
 mod joints;
@@ -21,22 +22,14 @@ impl Filter for Degree {
 
     ghost lawful = { λ s. degree_lawful };
 
-    fn apply<A: Source, R: Source>(
-        &self,
-        arrangement: &A,
-        room: &R,
-        strict: bool,
-        rows: &mut [u64],
-    ) -> Counts {
-        thin_by_degree(arrangement, room, strict, rows)
+    fn apply<A: Source, R: Source>(&self, problem: &Problem<A, R>, rows: &mut [u64]) -> Counts {
+        thin_by_degree(problem, rows)
     }
 
     // Joints are counted within all bays, so whatever was cut, the pairs that are left still pass.
     fn resume<A: Source, R: Source>(
         &self,
-        _arrangement: &A,
-        _room: &R,
-        _strict: bool,
+        _problem: &Problem<A, R>,
         _changed: u64,
         rows: &mut [u64],
     ) -> Counts {

@@ -1,57 +1,44 @@
 // The rows that keep the pairs of a unit and a bay with joints enough.
-ghost use Rattle.std.specs.Prelude.{◌≡◌, ℕ, ◌-◌, ◌<◌, ◌≤◌, not, ◌&&◌, ◌||◌, slice_index};
+ghost use Rattle.std.specs.Prelude.{◌≡◌, ℕ, ◌<◌};
 ghost use Rattle.graphs.specs.Rows.{bit};
 ghost use Rattle.filters.specs.Filter.{Counted};
-ghost use Rattle.degree.specs.Degree.{degree_meaning};
+ghost use Rattle.degree.specs.Degree.{degree_meaning, degree_test};
 ghost use Rattle.degree.specs.Worked.{Worked};
 
-use crate::joints::{degree_of, with_fewer};
+use crate::joints::{Degrees, degree_of};
 use filters::{Counts, empty_rows, nothing_taken, well_shaped};
 use graphs::Source;
+use placements::Problem;
 
-// The bays of the row that have joints enough for a unit with so many: at least as many, and in strict use not too many.
-fn enough(
-    row: u64,
-    fewer: &[u64; 65],
-    units: usize,
-    bays: usize,
-    strict: bool,
-    joints: usize,
-) -> u64
-    requires { (joints < units) × ((units ≤ 24) × (bays ≤ 64)) }
-    ensures { (b : ℕ) → bit result b ≡ (bit row b && (not (bit (slice_index fewer.now joints) b) && (not strict || bit (slice_index fewer.now (bays - (units - 1 - joints))) b))) }
+// The bays that have joints enough for the unit: at least as many, and in strict use not too many.
+fn enough<A: Source, R: Source>(problem: &Problem<A, R>, bays: &Degrees<R>, u: usize) -> u64
+    requires { bays.now.room.now ≡ problem.now.room.now }
+    ensures { (b : ℕ) → b < (R.Source.graph problem.now.room.now).count → bit result b ≡ degree_test (A.Source.graph problem.now.arrangement.now) (R.Source.graph problem.now.room.now) problem.now.strict u b }
 {
-    let many = row & !fewer[joints];
-    if strict {
-        many & fewer[bays.saturating_sub(units - 1 - joints)]
+    let joints = degree_of(problem.arrangement, u);
+    let many = bays.at_least(joints);
+    if problem.strict {
+        many & bays.apart_from(problem.arrangement.count() - 1 - joints)
     } else {
         many
     }
 }
 
 // Keeps the pairs of a unit and a bay that has joints enough for it.
-pub fn thin_by_degree<A: Source, R: Source>(
-    arrangement: &A,
-    room: &R,
-    strict: bool,
-    rows: &mut [u64],
-) -> Counts
-    ensures rows { rows.new ≡ degree_meaning (A.Source.graph arrangement.now) (R.Source.graph room.now) strict rows.old }
+pub fn thin_by_degree<A: Source, R: Source>(problem: &Problem<A, R>, rows: &mut [u64]) -> Counts
+    ensures rows { rows.new ≡ degree_meaning (A.Source.graph problem.now.arrangement.now) (R.Source.graph problem.now.room.now) problem.now.strict rows.old }
     ensures counts { Counted rows.old rows.new result }
     ensures worked { Worked }
 {
-    if !well_shaped(arrangement, room, rows) {
+    if !well_shaped(problem, rows) {
         return nothing_taken(rows);
     }
-    let fewer = with_fewer(room);
-    let units = rows.len();
-    let bays = room.count();
+    let bays = Degrees::of(problem.room);
     let mut taken: usize = 0;
-    for u in 0..units {
-        let row = rows[u];
-        let left = enough(row, &fewer, units, bays, strict, degree_of(arrangement, u));
+    for (u, row) in rows.iter_mut().enumerate() {
+        let left = *row & enough(problem, &bays, u);
         taken += (row.count_ones() - left.count_ones()) as usize;
-        rows[u] = left;
+        *row = left;
     }
     Counts {
         taken,

@@ -1,69 +1,52 @@
-use Rattle.std.proofs.Common.{ℕ, ◌+◌, ◌-◌, ◌*◌, ◌%◌, ◌^◌, ◌<◌, length, get_or, set, ◌∙◌, arith, length-set, get_or-set_same}
+use Rattle.std.proofs.Common.{ℕ, ◌+◌, ◌-◌, ◌*◌, ◌%◌, ◌^◌, ◌<◌, length, get_or, set, sym, ap, ◌∙◌, subst, arith, length-set, get_or-set_same}
 use lib.Bits.{bit_and, bit_or, and_le_l}
-use lib.Count.{ones, count_trailing_zeros}
-use Rattle.consistency.proofs.Cuts.{cutting_start, lowest_here, cutting_pass, cutting_step, step_few, cut_all, cut_short, cutting_as}
+use lib.Count.{ones}
+use Rattle.graphs.specs.declared.RowNodes.{RowNodes}
+use Rattle.graphs.proofs.Lowest.{turn, no_more}
+use Rattle.consistency.proofs.Cuts.{Cutting, cutting_start, lowest_here, cutting_pass, cutting_step, step_few, cut_all, cut_short}
 use Rattle.consistency.proofs.cut_rows.Goals as goal
-use Rattle.consistency.proofs.cut_rows.Goals.{then-row-old+else-row-eq0, else-row-old}
 
-pub loop-rest-init : goal.loop-rest-init
-loop-rest-init c = cutting_start c.args.units c.args.keep c.args.rows.now (omega arith)
+pub loop-u-init : goal.loop-u-init
+loop-u-init c =
+    subst (λ (rest : ℕ). Cutting c.args.units c.args.keep c.args.rows.now rest c.args.rows.now 0 0)
+    (sym (ap (λ (s : RowNodes). s.rest) c.into_iter-u-iterator.ensures.into_iter_gives ∙ c.nodes-u-items.ensures)) (cutting_start c.args.units c.args.keep c.args.rows.now)
+
+pub offset_bounds-rows-u : goal.offset_bounds-rows-u
+offset_bounds-rows-u c = let l = (turn c.loop-u.u-iterator c.next.new.self c.in-Some.ensures.steps).under in omega arith
 
 pub bounds-rows-u : goal.bounds-rows-u
-bounds-rows-u c =
-    (lowest_here c.args.units c.args.keep c.args.rows.now c.loop-rest.rest c.loop-rest.changed c.loop-rest.taken c.loop-rest.rows
-    c.loop-rest.invariant c.requires.within (omega arith)).1
+bounds-rows-u c = lowest_here _ _ _ (turn c.loop-u.u-iterator c.next.new.self c.in-Some.ensures.steps) c.loop-u.invariant c.requires.within
 
 pub bounds-rows-u-then-row-old : goal.bounds-rows-u-then-row-old
-bounds-rows-u-then-row-old c =
-    (lowest_here c.args.units c.args.keep c.args.rows.now c.loop-rest.rest c.loop-rest.changed c.loop-rest.taken c.loop-rest.rows
-    c.loop-rest.invariant c.requires.within (omega arith)).1
+bounds-rows-u-then-row-old c = lowest_here _ _ _ (turn c.loop-u.u-iterator c.next.new.self c.in-Some.ensures.steps) c.loop-u.invariant c.requires.within
 
 pub overflow_sub-taken : goal.overflow_sub-taken
-overflow_sub-taken c = and_le_l (get_or c.loop-rest.rows (count_trailing_zeros 64 c.loop-rest.rest) 0) c.args.keep
+overflow_sub-taken c = and_le_l (get_or c.loop-u.rows c.in-Some.u 0) c.args.keep
 
 pub overflow_cast-taken : goal.overflow_cast-taken
 overflow_cast-taken c =
-    let f = step_few c.args.units c.args.keep c.args.rows.now c.loop-rest.rest c.loop-rest.changed c.loop-rest.taken c.loop-rest.rows
-    c.loop-rest.invariant (omega arith) c.requires.within c.if-row-old.true c.requires.few in omega arith
+    omega (arith, step_few _ _ _ (turn c.loop-u.u-iterator c.next.new.self c.in-Some.ensures.steps) c.loop-u.invariant c.requires.within c.if-row-old.true c.requires.few)
 
 pub overflow_add-taken : goal.overflow_add-taken
 overflow_add-taken c =
-    let f = step_few c.args.units c.args.keep c.args.rows.now c.loop-rest.rest c.loop-rest.changed c.loop-rest.taken c.loop-rest.rows
-    c.loop-rest.invariant (omega arith) c.requires.within c.if-row-old.true c.requires.few in omega arith
+    omega (arith, step_few _ _ _ (turn c.loop-u.u-iterator c.next.new.self c.in-Some.ensures.steps) c.loop-u.invariant c.requires.within c.if-row-old.true c.requires.few)
 
 pub overflow_shl-changed : goal.overflow_shl-changed
-overflow_shl-changed c =
-    (lowest_here c.args.units c.args.keep c.args.rows.now c.loop-rest.rest c.loop-rest.changed c.loop-rest.taken c.loop-rest.rows
-    c.loop-rest.invariant c.requires.within (omega arith)).0
+overflow_shl-changed c = (turn c.loop-u.u-iterator c.next.new.self c.in-Some.ensures.steps).under
 
 pub returns-then-row-eq0 : goal.returns-then-row-eq0
 returns-then-row-eq0 c =
-    let u : ℕ = count_trailing_zeros 64 c.loop-rest.rest in
-    let row : ℕ = bit_and (get_or c.loop-rest.rows u 0) c.args.keep in
-    let l : u < length c.loop-rest.rows = (lowest_here c.args.units c.args.keep c.args.rows.now c.loop-rest.rest c.loop-rest.changed c.loop-rest.taken c.loop-rest.rows
-    c.loop-rest.invariant c.requires.within (omega arith)).1 in
-    cut_short c.args.units c.args.keep c.args.rows.now (bit_and c.loop-rest.rest (c.loop-rest.rest - 1))
-    (bit_or c.loop-rest.changed ((1 * 2 ^ u) % 18446744073709551616)) (c.loop-rest.taken + ones (get_or c.loop-rest.rows u 0 - row)) u (set c.loop-rest.rows u row)
-    (cutting_step c.args.units c.args.keep c.args.rows.now c.loop-rest.rest c.loop-rest.changed c.loop-rest.taken c.loop-rest.rows
-    c.loop-rest.invariant (omega arith) c.requires.within c.if-row-old.true)
-    (omega (arith, length-set c.loop-rest.rows u row)) (get_or-set_same c.loop-rest.rows u row 0 l ∙ c.if-row-eq0.true)
+    let n = turn c.loop-u.u-iterator c.next.new.self c.in-Some.ensures.steps in
+    let l = lowest_here _ _ _ n c.loop-u.invariant c.requires.within in
+    let row : ℕ = bit_and (get_or c.loop-u.rows c.in-Some.u 0) c.args.keep in
+    cut_short _ _ _ _ _ _ c.in-Some.u _ (cutting_step _ _ _ n c.loop-u.invariant c.requires.within c.if-row-old.true)
+    (omega (arith, length-set c.loop-u.rows c.in-Some.u row)) (get_or-set_same c.loop-u.rows c.in-Some.u row 0 l ∙ c.if-row-eq0.true)
 
-pub loop-rest-preserved : goal.loop-rest-preserved
-loop-rest-preserved c =
-    elim c.if-row-old.branch [
-      | then-row-old+else-row-eq0 w ↦
-          cutting_as c.args.units c.args.keep c.args.rows.now (bit_and c.loop-rest.rest (c.loop-rest.rest - 1)) _ c.if-row-old.changed _ c.if-row-old.taken _ c.if-row-old.rows
-          w.rows-is w.changed-is w.taken-is
-          (cutting_step c.args.units c.args.keep c.args.rows.now c.loop-rest.rest c.loop-rest.changed c.loop-rest.taken c.loop-rest.rows
-          c.loop-rest.invariant (omega arith) c.requires.within w.if-row-old.true)
-      | else-row-old w ↦
-          cutting_as c.args.units c.args.keep c.args.rows.now (bit_and c.loop-rest.rest (c.loop-rest.rest - 1)) _ c.if-row-old.changed _ c.if-row-old.taken _ c.if-row-old.rows
-          w.rows-is w.changed-is w.taken-is
-          (cutting_pass c.args.units c.args.keep c.args.rows.now c.loop-rest.rest c.loop-rest.changed c.loop-rest.taken c.loop-rest.rows
-          c.loop-rest.invariant (omega arith) w.if-row-old.false)
-    ]
+pub loop-u-preserved-else-row-eq0 : goal.loop-u-preserved-else-row-eq0
+loop-u-preserved-else-row-eq0 c = cutting_step _ _ _ (turn c.loop-u.u-iterator c.next.new.self c.in-Some.ensures.steps) c.loop-u.invariant c.requires.within c.if-row-old.true
+
+pub loop-u-preserved : goal.loop-u-preserved
+loop-u-preserved c = cutting_pass _ _ _ (turn c.loop-u.u-iterator c.next.new.self c.in-Some.ensures.steps) c.loop-u.invariant c.if-row-old.false
 
 pub returns : goal.returns
-returns c =
-    cut_all c.args.units c.args.keep c.args.rows.now c.loop-rest.rest c.loop-rest.changed c.loop-rest.taken c.loop-rest.rows
-    c.loop-rest.invariant c.loop-rest-test.false
+returns c = cut_all _ _ _ _ _ _ _ c.loop-u.invariant (no_more c.loop-u.u-iterator c.in-None.ensures.steps.0)

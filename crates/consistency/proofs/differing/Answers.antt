@@ -17,24 +17,24 @@ others held = bit_and held (held - 1)
 
 pub returns-then-held-eq0 : goal.returns-then-held-eq0
 returns-then-held-eq0 g c =
-    let r : Graph = g.R.Source.graph c.args.room.now in
+    let r : Graph = g.R.Source.graph c.args.problem.now.room.now in
     let row : ℕ = c.args.row in
-    let few = (g.R.Source.sound c.args.room.now).few in
+    let few = (g.R.Source.sound c.args.problem.now.room.now).few in
     subst (λ (n : ℕ). bit_and row (all n) ≡ 0 → 0 ≡ row_of r.count (λ b. any_of row r.count (agrees_if r false false false b))) (sym c.count.ensures)
     (lone_none r few row) c.if-held-eq0.true
 
 pub returns-then-held-eq0-2 : goal.returns-then-held-eq0-2
 returns-then-held-eq0-2 g c =
-    let r : Graph = g.R.Source.graph c.args.room.now in
+    let r : Graph = g.R.Source.graph c.args.problem.now.room.now in
     let row : ℕ = c.args.row in
-    let few = (g.R.Source.sound c.args.room.now).few in
+    let few = (g.R.Source.sound c.args.problem.now.room.now).few in
     subst (λ (n : ℕ). 0 < bit_and row (all n) → others (bit_and row (all n)) ≡ 0 → bit_and (all n) (18446744073709551615 - bit_and row (all n)) ≡ row_of r.count (λ b. any_of row r.count (agrees_if r false false false b))) (sym c.count.ensures)
     (lone_one r few row) (omega arith) c.if-held-eq0-2.true
 
 pub returns-else-held-eq0-2 : goal.returns-else-held-eq0-2
 returns-else-held-eq0-2 g c =
-    let r : Graph = g.R.Source.graph c.args.room.now in
+    let r : Graph = g.R.Source.graph c.args.problem.now.room.now in
     let row : ℕ = c.args.row in
-    let few = (g.R.Source.sound c.args.room.now).few in
+    let few = (g.R.Source.sound c.args.problem.now.room.now).few in
     subst (λ (n : ℕ). 0 < bit_and row (all n) → 0 < others (bit_and row (all n)) → all n ≡ row_of r.count (λ b. any_of row r.count (agrees_if r false false false b))) (sym c.count.ensures)
     (lone_more r few row) (omega arith) (omega arith)

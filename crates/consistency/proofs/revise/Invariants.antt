@@ -1,8 +1,5 @@
 use Rattle.consistency.proofs.Lowest.{Apart}
 use Rattle.consistency.proofs.revise.Given as goal
 
-abbrev pub invariant-loop-rest : goal.invariant-loop-rest
-invariant-loop-rest g l = Apart (g.R.Source.graph l.room) l.out l.back l.strict l.row l.other l.rest l.found
-
-abbrev pub decreases-loop-rest : goal.decreases-loop-rest
-decreases-loop-rest g l = l.rest
+abbrev pub invariant-loop-c : goal.invariant-loop-c
+invariant-loop-c g l = Apart (g.R.Source.graph l.problem.room.now) l.joined.out l.joined.back l.problem.strict l.row l.other l.c-iterator.rest l.found

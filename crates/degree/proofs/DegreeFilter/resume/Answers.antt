@@ -4,6 +4,6 @@ use Rattle.degree.proofs.DegreeFilter.resume.Goals as goal
 
 pub returns : goal.returns
 returns g c = record {
-  resumes = kept_resumes degree_test (g.A.Source.graph c.args._arrangement.now) (g.R.Source.graph c.args._room.now) c.args._strict c.args._changed c.args.rows.now;
+  resumes = kept_resumes degree_test (g.A.Source.graph c.args._problem.now.arrangement.now) (g.R.Source.graph c.args._problem.now.room.now) c.args._problem.now.strict c.args._changed c.args.rows.now;
   counts = c.nothing_taken.ensures;
 }

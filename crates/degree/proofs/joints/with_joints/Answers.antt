@@ -18,8 +18,5 @@ pub returns : goal.returns
 returns g c =
     let G : Graph = g.S.Source.graph c.args.source.now in
     let e : c.loop-b.b ≡ G.count = omega (arith, c.count-b-end.ensures, c.loop-b-test.false, c.loop-b.auto.b-end) in
-    record {
-      none = c.loop-b.invariant.none;
-      exact = λ k l. row_is G.count (get_or c.loop-b.rows (k + 1) 0) (λ b. eqb (degree_within G all_nodes b) k)
-          (λ v. c.loop-b.invariant.exact k l v ∙ ap (λ (n : ℕ). ltb v n && eqb (degree_within G all_nodes v) k) e);
-    }
+    λ k l. row_is G.count (get_or c.loop-b.rows k 0) (λ b. eqb (degree_within G all_nodes b + 1) k)
+    (λ v. c.loop-b.invariant.exact k l v ∙ ap (λ (n : ℕ). ltb v n && eqb (degree_within G all_nodes v + 1) k) e)
