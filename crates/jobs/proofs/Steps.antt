@@ -104,7 +104,7 @@ module _ (input : List ℕ) where
             subst (λ (n : ℕ). rest (length a.rows) n input at ≡ Err e) eb (subst (λ (m : ℕ). rest m bays input at ≡ Err e) eu t) in
             tables_fail e (then_fails joints_part room_part input 3 (sym ha) (then_fails joints_part (rest_part a) input room_at (sym hr) here))
 
-        pub job_done : (kinds heights : List ℕ) (f : Form) (next : ℕ) → rest units bays input at ≡ Ok (((take units kinds, take bays heights), f), next)
+        job_done : (kinds heights : List ℕ) (f : Form) (next : ℕ) → rest units bays input at ≡ Ok (((take units kinds, take bays heights), f), next)
             → Ok (record { mode = head.0; edition = head.1; arrangement = a; room = r; kinds = take (length a.rows) kinds; heights = take (length r.rows) heights; struck = f }) ≡ read_job input
         job_done kinds heights f next t =
             let here : rest_part a r input at ≡ Ok (((take (length a.rows) kinds, take (length r.rows) heights), f), next) =
@@ -115,3 +115,10 @@ module _ (input : List ℕ) where
             (then_done head_part (λ _. after joints_part room_part) input 0 (sym h)
             (then_done joints_part room_part input 3 (sym ha)
             (then_done joints_part (rest_part a) input room_at (sym hr) here)))))
+
+        pub job_read :
+            (kinds heights : List ℕ) (f : Form) → Ok (take units kinds, at + units) ≡ kinds_part units input at
+            → Ok (take bays heights, at + units + 2 * bays) ≡ heights_part bays input (at + units) → Ok f ≡ read_plan input (at + units + 2 * bays)
+            → same_sizes units bays f ≡ true
+            → Ok (record { mode = head.0; edition = head.1; arrangement = a; room = r; kinds = take (length a.rows) kinds; heights = take (length r.rows) heights; struck = f }) ≡ read_job input
+        job_read kinds heights f k h p s = let d = rest_done input at units bays _ k _ h f p s in job_done kinds heights f d.0 d.1

@@ -2,7 +2,7 @@ use Rattle.std.proofs.Common.{length, sym, ap, arith}
 use Rattle.std.proofs.lemmas.Result.{err_from_is_err_and}
 use Rattle.tables.specs.Bytes.{Bytes}
 use Rattle.jobs.proofs.Jobs.{job_exact}
-use Rattle.jobs.proofs.Steps.{head_fails, arrangement_fails, room_fails, kinds_fail, heights_fail, plan_fails, sizes_fail, rest_done, rest_fails, job_done, job_lawful, plan_behind}
+use Rattle.jobs.proofs.Steps.{head_fails, arrangement_fails, room_fails, kinds_fail, heights_fail, plan_fails, sizes_fail, rest_fails, job_read, job_lawful, plan_behind}
 use Rattle.jobs.proofs.read.read_job.Goals as goal
 
 pub returns-in_err-mode : goal.returns-in_err-mode
@@ -72,12 +72,21 @@ returns-then-not-sizes_match c =
       exact = job_exact;
     }
 
+pub invariant_of-result : goal.invariant_of-result
+invariant_of-result c =
+    let value =
+    job_read c.args.input.now _ c.in_ok-mode.ensures _ _ c.in_ok-arrangement.ensures.value _ _ c.in_ok-room.ensures.value _ _
+    (ap length c.rows-units.ensures.value) (ap length c.rows-bays.ensures.value) c.in_ok-kinds.kinds c.in_ok-heights.heights _
+    c.in_ok-kinds.ensures.value c.in_ok-heights.ensures.value c.in_ok-struck.ensures.value (sym c.if-not-sizes_match.ensures) in
+    record { lawful = job_lawful c.args.input.now _ (λ i. omega (arith, c.type_inv.input i)) value }
+
 pub returns : goal.returns
 returns c =
-    let done = rest_done c.args.input.now c.in_ok-room.cards_at (length c.rows-units.result.now) (length c.rows-bays.result.now) _ c.in_ok-kinds.ensures.value _ c.in_ok-heights.ensures.value _ c.in_ok-struck.ensures.value (sym c.if-not-sizes_match.ensures) in
     let bytes : Bytes c.args.input.now = λ i. omega (arith, c.type_inv.input i) in
-    let value = job_done c.args.input.now _ c.in_ok-mode.ensures _ _ c.in_ok-arrangement.ensures.value _ _ c.in_ok-room.ensures.value _ _
-    (ap length c.rows-units.ensures.value) (ap length c.rows-bays.ensures.value) c.in_ok-kinds.kinds c.in_ok-heights.heights _ done.0 done.1 in
+    let value =
+    job_read c.args.input.now _ c.in_ok-mode.ensures _ _ c.in_ok-arrangement.ensures.value _ _ c.in_ok-room.ensures.value _ _
+    (ap length c.rows-units.ensures.value) (ap length c.rows-bays.ensures.value) c.in_ok-kinds.kinds c.in_ok-heights.heights _
+    c.in_ok-kinds.ensures.value c.in_ok-heights.ensures.value c.in_ok-struck.ensures.value (sym c.if-not-sizes_match.ensures) in
     record {
       value = value;
       lawful = job_lawful c.args.input.now _ bytes value;
