@@ -1,6 +1,7 @@
 // Graphs that are drawn joint by joint.
-ghost use Rattle.std.specs.Prelude.{◌≡◌, ℕ, ◌*◌, ◌≤◌, ◌||◌, min, replicate, take};
+ghost use Rattle.std.specs.Prelude.{◌≡◌, ℕ, ◌*◌, ◌<◌, ◌≤◌, ◌||◌, true, false, min, replicate, take};
 ghost use Rattle.graphs.specs.Rows.{pairs};
+ghost use Rattle.graphs.specs.JointTable.{TableLawful};
 ghost use Rattle.drawing.specs.Joints.{joins};
 
 use crate::chance::Chance;
@@ -12,6 +13,9 @@ pub struct Graph {
     pub count: usize,
     pub rows: [u64; 64],
     ghost few: { count ≤ 64 },
+    ghost inside: { (a b : ℕ) → pairs rows a b ≡ true → b < count },
+    ghost irreflexive: { (a : ℕ) → pairs rows a a ≡ false },
+    ghost symmetric: { (a b : ℕ) → pairs rows a b ≡ pairs rows b a },
 }
 
 impl Graph {
@@ -26,11 +30,12 @@ impl Graph {
         }
     }
 
-    // The rows of the nodes.
+    // The rows of the nodes, which a joint table takes as they are.
     pub fn rows(&self) -> &[u64]
-        ensures { result.now ≡ take self.now.count self.now.rows }
+        ensures rows { result.now ≡ take self.now.count self.now.rows }
+        ensures lawful { 1 ≤ self.now.count → TableLawful result.now self.now.count }
     {
-        &self.rows[0..self.count]
+        &self.rows[..self.count]
     }
 
     pub fn joined(&self, a: usize, b: usize) -> bool
