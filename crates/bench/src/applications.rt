@@ -4,9 +4,9 @@ use crate::rooms::Family;
 use crate::run::{Measure, Run};
 use consistency::ArcConsistency;
 use degree::Degree;
-use drawing::Problem;
 use filters::Filter;
 use graphs::Source;
+use placements::Problem;
 use std::io;
 
 const TURNS: u64 = 20000;
@@ -21,9 +21,7 @@ fn taken<A: Source, R: Source, F: Filter>(
     let count = rows.len().min(24);
     let part = &mut left[0..count];
     part.copy_from_slice(&rows[0..count]);
-    filter
-        .apply(problem.arrangement, problem.room, problem.strict, part)
-        .taken as u64
+    filter.apply(problem, part).taken as u64
 }
 
 // A line for each filter.

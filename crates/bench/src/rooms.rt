@@ -1,6 +1,7 @@
 // Fixed arrangements and rooms, drawn from a shape and a number.
 use crate::run::Measure;
-use drawing::{Chance, Graph, Problem};
+use drawing::{Chance, Graph};
+use placements::Problem;
 use sources::{JointTable, WallGrid};
 use std::alloc::{AllocError, Global};
 use std::io;

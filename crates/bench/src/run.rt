@@ -1,6 +1,6 @@
 // One run of the program: what it prints, and the time if that is asked for.
-use drawing::Problem;
 use graphs::Source;
+use placements::Problem;
 use std::io;
 use std::time::Instant;
 

@@ -2,8 +2,8 @@
 use crate::BOTH;
 use crate::rooms::Family;
 use crate::run::{Measure, Run};
-use drawing::Problem;
 use graphs::Source;
+use placements::Problem;
 use search::{Find, SearchError, first};
 use std::io;
 
@@ -16,13 +16,7 @@ fn tries_of(answer: Result<Find, SearchError>) -> u64 {
 }
 
 fn seek<A: Source, R: Source>(problem: &Problem<A, R>, rows: &[u64]) -> Result<Find, SearchError> {
-    first(
-        problem.arrangement,
-        problem.room,
-        problem.strict,
-        &BOTH,
-        rows,
-    )
+    first(problem, &BOTH, rows)
 }
 
 // A line for the seek in the room with this number.

@@ -12,7 +12,7 @@ use graphs::Source;
 
 // What placements are sought for: the arrangement, the room, and whether units that are not joined must stand on bays that are not
 // joined.
-#[derive(Drop)]
+#[derive_where(Clone, Copy)]
 pub struct Problem<'a, A, R> {
     pub arrangement: &'a A,
     pub room: &'a R,

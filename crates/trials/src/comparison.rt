@@ -1,10 +1,9 @@
 // The two searches side by side.
 use crate::plain::Case;
 use crate::tally::Tally;
-use drawing::Problem;
 use filters::Filter;
 use graphs::Source;
-use placements::is_placement;
+use placements::Problem;
 use search::{Find, SearchError, first, next_after};
 
 // A case for the second search, and the same as the search is asked it.
@@ -18,15 +17,10 @@ pub(crate) struct Comparison<'a, 'f, A, R, F> {
 impl<'a, 'f, A: Source, R: Source, F: Filter> Comparison<'a, 'f, A, R, F> {
     // Whether the answer is the list with this number, or no placement where there is none.
     fn same(&self, wanted: Option<usize>, answer: Result<Find, SearchError>) -> bool {
-        let Problem {
-            arrangement,
-            room,
-            strict,
-        } = self.problem;
         match (wanted, answer) {
             (Some(number), Ok(find)) => {
                 let bays = &find.bays[0..self.case.units.count.min(24)];
-                find.bays == self.case.list(number) && is_placement(arrangement, room, strict, bays)
+                find.bays == self.case.list(number) && self.problem.is_placement(bays)
             }
             (None, Err(SearchError::NoPlacement { .. })) => true,
             _ => false,
@@ -48,31 +42,14 @@ impl<'a, 'f, A: Source, R: Source, F: Filter> Comparison<'a, 'f, A, R, F> {
 
     // The first placement after the list with this number, which need be no placement.
     pub(crate) fn after(&self, number: usize, tally: &mut Tally) -> Option<usize> {
-        let Problem {
-            arrangement,
-            room,
-            strict,
-        } = self.problem;
         let last = self.case.list(number);
-        let answer = next_after(
-            arrangement,
-            room,
-            strict,
-            self.filter,
-            &self.case.open,
-            &last,
-        );
+        let answer = next_after(&self.problem, self.filter, &self.case.open, &last);
         self.agreed(number.saturating_add(1), answer, tally)
     }
 
     // The chain of all placements, each sought after the one before.
     pub(crate) fn chain(&self, tally: &mut Tally) {
-        let Problem {
-            arrangement,
-            room,
-            strict,
-        } = self.problem;
-        let answer = first(arrangement, room, strict, self.filter, &self.case.open);
+        let answer = first(&self.problem, self.filter, &self.case.open);
         let mut placement = self.agreed(0, answer, tally);
         for _ in 0..self.case.lists() {
             let Some(number) = placement else { return };
