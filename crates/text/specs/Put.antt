@@ -16,6 +16,5 @@ pub record Kept (t t' : Text) : Type 0 where
   pub same : t'.out.ghost_name ≡ t.out.ghost_name
 
 -- bytes that fit behind the text are written; of others nothing is
-abbrev pub Put : List ℕ → (t t' : Text) → Option (Unit {0}) → Type 0
-Put bytes t t' r =
-    MatchOption r ((length t.out.now < t.len + length bytes) × Kept t t') (λ _. (t.len + length bytes ≤ length t.out.now) × Wrote bytes t t')
+pub record Put (bytes : List ℕ) (t t' : Text) (r : Option (Unit {0})) : Type 0 where
+  pub cases : MatchOption r ((length t.out.now < t.len + length bytes) × Kept t t') (λ _. (t.len + length bytes ≤ length t.out.now) × Wrote bytes t t')
