@@ -1,45 +1,61 @@
--- The call's answer, and that bytes have one text. Assumes nothing.
-use Rattle.std.proofs.Common.{◌≡◌, ℕ, ◌≤◌, List, length, drop, Ok, Err, Result, sym, refl, ap, ◌∙◌, subst, arith, length-drop, MatchResult}
+-- The text of a job's bytes is one, and short. Assumes nothing.
+use Rattle.std.proofs.Common.{◌≡◌, ℕ, zero, suc, ◌+◌, ◌/◌, ◌%◌, ◌≤◌, true, false, cond, eqb, List, [], ◌∷◌, ◌++◌, length, codes, decimal, Ok, Err, Result, MatchResult, sym, refl, ap, ◌∙◌, subst, arith, length-append}
+use Rattle.std.specs.Fmt.{digits, digits_onto, digit_glyph}
 use Rattle.placements.proofs.Orders.{lists_unique}
-use Rattle.tables.specs.Form.{Form}
-use Rattle.saved.specs.Plan.{plan_bytes}
-use Rattle.saved.proofs.Plans.{plan_length}
+use Rattle.refusals.specs.declared.Told.{Told}
+use Rattle.refusals.specs.Numbers.{number_of}
 use Rattle.jobs.specs.declared.fault.JobFault.{JobFault}
 use Rattle.jobs.specs.Form.{JobForm}
 use Rattle.jobs.specs.Read.{read_job}
 use Rattle.jobs.specs.Told.{job_told}
 use Rattle.listings.specs.Suited.{Suited}
-use Rattle.listings.specs.Text.{listing_text, refusal_text, Wrote}
-use Rattle.listings.specs.JobText.{Listed, WroteListing, OneText, Answered}
+use Rattle.listings.specs.Text.{listing_text, refusal_text}
+use Rattle.listings.specs.JobText.{Listed, JobText, OneText}
 
-one : (r : Result JobForm JobFault) (s t : List ℕ) → MatchResult r (λ j. Listed j s) (λ e. s ≡ refusal_text (job_told e)) → MatchResult r (λ j. Listed j t) (λ e. t ≡ refusal_text (job_told e)) → s ≡ t
+-- the text of what the reader answers
+abbrev TextOf : Result JobForm JobFault → List ℕ → Type 0
+TextOf r text = MatchResult r (λ j. Listed j text) (λ e. text ≡ refusal_text (job_told e))
+
+one : (r : Result JobForm JobFault) (s t : List ℕ) → TextOf r s → TextOf r t → s ≡ t
 one (Ok j) s t f g = f.is ∙ ap listing_text (lists_unique (Suited j) f.all g.all f.lists g.lists) ∙ sym g.is
 one (Err e) s t f g = f ∙ sym g
 
 pub one_text : OneText
 one_text input s t f g = one (read_job input) s t f g
 
--- a saved plan takes room, so it begins within the input
-pub plan_inside : (input : List ℕ) (at : ℕ) (f : Form) → drop at input ≡ plan_bytes f → at ≤ length input
-plan_inside input at f e = omega (arith, ap length e, plan_length f, length-drop at input)
+module _ (input : List ℕ) where
+  pub text_listed : (j : JobForm) (text : List ℕ) → Ok j ≡ read_job input → Listed j text → JobText input text
+  text_listed j text e l = subst (λ (r : Result JobForm JobFault). TextOf r text) e l
 
-module _ (input out out' : List ℕ) (n : ℕ) where
-  pub answer_listed : (j : JobForm) → Ok j ≡ read_job input → WroteListing j out out' n → Answered input out out' (record { declined = 0; written = n })
-  answer_listed j e w =
-      record {
-        text = w.text;
-        of_job = subst (λ (r : Result JobForm JobFault). MatchResult r (λ j. Listed j w.text) (λ e. w.text ≡ refusal_text (job_told e))) e w.listed;
-        number = refl;
-        length_is = omega (arith, w.wrote.place);
-        buffer = w.wrote.after;
-      }
+  pub text_refused : (e : JobFault) → Err e ≡ read_job input → JobText input (refusal_text (job_told e))
+  text_refused e r = subst (λ (x : Result JobForm JobFault). TextOf x (refusal_text (job_told e))) r refl
 
-  pub answer_refused : (e : JobFault) → Err e ≡ read_job input → Wrote (refusal_text (job_told e)) 0 out out' n → Answered input out out' (record { declined = 0; written = n })
-  answer_refused e r w =
-      record {
-        text = refusal_text (job_told e);
-        of_job = subst (λ (x : Result JobForm JobFault). MatchResult x (λ j. Listed j (refusal_text (job_told e))) (λ f. refusal_text (job_told e) ≡ refusal_text (job_told f))) r refl;
-        number = refl;
-        length_is = omega (arith, w.place);
-        buffer = w.after;
-      }
+-- ---- a refusal is short: std writes no number in more than 64 digits
+
+digits_few : (k n : ℕ) (acc : List ℕ) → length (digits_onto k 10 false n acc) ≤ k + length acc
+digits_few zero n acc = omega arith
+digits_few (suc k) n acc =
+    elim (eqb (n / 10) 0) as (λ b. length (cond b (digit_glyph false (n % 10) ∷ acc) (digits_onto k 10 false (n / 10) (digit_glyph false (n % 10) ∷ acc))) ≤ suc k + length acc) [
+      | true ↦ omega arith
+      | false ↦ omega (arith, digits_few k (n / 10) (digit_glyph false (n % 10) ∷ acc))
+    ]
+
+decimal_few : (n : ℕ) → length (decimal n) ≤ 64
+unfolding digits
+decimal_few n = digits_few 64 n []
+
+pub refusal_short : (t : Told) → length (refusal_text t) ≤ 1536
+refusal_short t =
+    let n = number_of t.reason in
+    let last = decimal t.place ++ (10 ∷ []) in
+    let rest = decimal t.layer ++ (32 ∷ last) in
+    omega (
+      arith,
+      decimal_few n,
+      decimal_few t.layer,
+      decimal_few t.place,
+      length-append (codes "refused ") (decimal n ++ (32 ∷ rest)),
+      length-append (decimal n) (32 ∷ rest),
+      length-append (decimal t.layer) (32 ∷ last),
+      length-append (decimal t.place) (10 ∷ []),
+    )

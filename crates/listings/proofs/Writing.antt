@@ -1,49 +1,46 @@
 -- Texts written one behind the other, and how long lines are. Assumes nothing.
-use Rattle.std.proofs.Common.{◌≡◌, ℕ, zero, suc, ◌+◌, ◌*◌, ◌<◌, ◌≤◌, true, eqb, leb, List, [], ◌∷◌, ◌++◌, length, get_or, take, Some, None, decimal, Option, sym, ap, ◌∙◌, subst, inl, inr, append_assoc, append-nil, arith, length-append}
+use Rattle.std.proofs.Common.{◌≡◌, ℕ, zero, suc, ◌+◌, ◌*◌, ◌<◌, ◌≤◌, Bool, true, false, cond, eqb, ltb, List, [], ◌∷◌, ◌++◌, length, get_or, take, Some, None, codes, decimal, Option, sym, refl, ap, ap₂, ◌∙◌, subst, append_assoc, append-nil, arith, length-append}
 use Rattle.std.proofs.lemmas.Fmt.{length-decimal-le}
-use Rattle.std.proofs.lemmas.List.{get_or-take, get_or_past, length-take, length-take-le, take_more}
-use Rattle.std.proofs.lemmas.Bool.{cases_lt, cond-false, cond-true, eq-eqb, le-leb, ne_eqb}
+use Rattle.std.proofs.lemmas.List.{length-take-le, take-take, take_more}
+use Rattle.std.proofs.lemmas.Bool.{cond-false, cond-true, eq-eqb, ne_eqb}
 use Rattle.text.specs.Lay.{lay}
-use Rattle.text.specs.Put.{Put}
+use Rattle.text.specs.declared.Text.{Text}
+use Rattle.text.specs.Put.{Put, Wrote}
 use Rattle.text.proofs.Lay.{lay_append, lay_nil, length_lay}
-use Rattle.listings.specs.Text.{blank_led, spaced, line, lines, Wrote, numbered}
+use Rattle.listings.specs.Text.{blank_led, spaced, line, lines, listing_text, Writes, numbered}
 
-pub wrote_nothing : (at : ℕ) (out : List ℕ) → Wrote [] at out out at
-wrote_nothing at out = record { place = omega arith; after = sym (lay_nil out at) }
+pub wrote_nothing : (t : Text) → Wrote [] t t
+wrote_nothing t = record { place = omega arith; after = sym (lay_nil t.out.now t.len); same = refl }
 
-pub then : {a b : List ℕ} {at p r : ℕ} {out mid out' : List ℕ} → Wrote a at out mid p → Wrote b p mid out' r → Wrote (a ++ b) at out out' r
-then {a} {b} {at} {p} {r} {out} {mid} {out'} f g =
-    record {
-      place = omega (arith, f.place, g.place, length-append a b);
-      after = g.after ∙ ap (λ x. lay x p b) f.after ∙ ap (λ x. lay (lay out at a) x b) f.place ∙ sym (lay_append out at a b);
-    }
+module _ {a : List ℕ} {t m : Text} (f : Wrote a t m) where
+  long : length m.out.now ≡ length t.out.now
+  long = ap length f.after ∙ length_lay t.out.now t.len a
 
-pub wrote_same : {a b : List ℕ} {at r : ℕ} {out out' : List ℕ} → a ≡ b → Wrote a at out out' r → Wrote b at out out' r
-wrote_same {a} {b} {at} {r} {out} {out'} e w = subst (λ (t : List ℕ). Wrote t at out out' r) e w
-
-pub wrote_long : {a : List ℕ} {at r : ℕ} {out out' : List ℕ} → Wrote a at out out' r → length out' ≡ length out
-wrote_long {a} {at} {r} {out} {out'} w = ap length w.after ∙ length_lay out at a
-
-some_same : (m n : ℕ) → ◌≡◌ {A = Option ℕ} (Some m) (Some n) → m ≡ n
-some_same m n e = cc
-
-none_not_some : {P : Type 0} (n : ℕ) → ◌≡◌ {A = Option ℕ} None (Some n) → P
-none_not_some n e = let z : ◌≡◌ {A = ℕ} 0 1 = cc in absurd (omega arith)
-
--- what fits is put
-module _ (bytes : List ℕ) (at : ℕ) (out out' : List ℕ) (room : at + length bytes ≤ length out) where
-  fits : leb (at + length bytes) (length out) ≡ true
-  fits = le-leb (at + length bytes) (length out) room
-
-  pub put_wrote : (next : ℕ) → Put bytes at out out' (Some next) → Wrote bytes at out out' next
-  put_wrote next p =
+  pub then_wrote : {b : List ℕ} {t' : Text} → Wrote b m t' → Wrote (a ++ b) t t'
+  then_wrote {b} {t'} g =
       record {
-        place = some_same next (at + length bytes) (p.answer ∙ cond-true (leb (at + length bytes) (length out)) _ _ fits);
-        after = p.buffer ∙ cond-true (leb (at + length bytes) (length out)) _ _ fits;
+        place = omega (arith, f.place, g.place, length-append a b);
+        after = g.after ∙ ap₂ (λ o n. lay o n b) f.after f.place ∙ sym (lay_append t.out.now t.len a b);
+        same = g.same ∙ f.same;
       }
 
-  pub put_some : Put bytes at out out' None → ⊥
-  put_some p = none_not_some (at + length bytes) (p.answer ∙ cond-true (leb (at + length bytes) (length out)) _ _ fits)
+  pub then : {b : List ℕ} {t' : Text} (r : Option (Unit {0})) → Writes b m t' r → Writes (a ++ b) t t' r
+  then {b} (Some u) g = record { cases = then_wrote g.cases }
+  then {b} None g = record { cases = (omega (arith, f.place, g.cases.0, long, length-append a b), g.cases.1 ∙ f.same) }
+
+-- where a text does not fit, a longer one doesn't either
+pub unfit : {a b : List ℕ} {t t' : Text} → length a ≤ length b → Writes a t t' None → Writes b t t' None
+unfit h f = record { cases = (omega (arith, f.cases.0, h), f.cases.1) }
+
+pub longer : {a : List ℕ} (b : List ℕ) {t t' : Text} → Writes a t t' None → Writes (a ++ b) t t' None
+longer {a} b f = unfit (omega (arith, length-append a b)) f
+
+pub put_writes : {a : List ℕ} {t t' : Text} (r : Option (Unit {0})) → Put a t t' r → Writes a t t' r
+put_writes (Some u) p = record { cases = p.cases.1 }
+put_writes None p = record { cases = (p.cases.0, p.cases.1.same) }
+
+pub writes_same : {a b : List ℕ} {t t' : Text} {r : Option (Unit {0})} → a ≡ b → Writes a t t' r → Writes b t t' r
+writes_same {a} {b} {t} {t'} {r} e w = subst (λ (x : List ℕ). Writes x t t' r) e w
 
 -- ---- lines
 
@@ -71,10 +68,6 @@ spaced_more w u h =
 pub two_digits : (b : ℕ) → b < 100 → length (decimal b) ≤ 2
 two_digits b h = length-decimal-le 2 b (omega arith) (omega arith) (omega arith)
 
-pub numbered_short : (u b : ℕ) → b < 100 → length (numbered u b) ≤ 3
-numbered_short zero b h = omega (arith, two_digits b h)
-numbered_short (suc u) b h = omega (arith, two_digits b h, ap length (numbered_later (suc u) b (λ e. omega arith)))
-
 blank_led_short : (w : List ℕ) → ((u : ℕ) → get_or w u 0 < 100) → length (blank_led w) ≤ 3 * length w
 blank_led_short [] h = omega arith
 blank_led_short (b ∷ w) h = omega (arith, two_digits b (h 0), length-append (decimal b) (blank_led w), blank_led_short w (λ u. h (suc u)))
@@ -83,15 +76,17 @@ spaced_short : (w : List ℕ) → ((u : ℕ) → get_or w u 0 < 100) → length 
 spaced_short [] h = omega arith
 spaced_short (b ∷ w) h = omega (arith, two_digits b (h 0), length-append (decimal b) (blank_led w), blank_led_short w (λ u. h (suc u)))
 
-front_low : (w : List ℕ) (k : ℕ) → ((u : ℕ) → get_or w u 0 < 100) → (u : ℕ) → get_or (take k w) u 0 < 100
-front_low w k h u =
-    elim (cases_lt u k) [
-      | inl l ↦ subst (λ (x : ℕ). x < 100) (sym (get_or-take k w u 0 l)) (h u)
-      | inr g ↦ subst (λ (x : ℕ). x < 100) (sym (get_or_past (take k w) u 0 (omega (arith, length-take k w)))) (omega arith)
-    ]
+blank_led_front : (k : ℕ) (w : List ℕ) → length (blank_led (take k w)) ≤ length (blank_led w)
+blank_led_front zero w = omega arith
+blank_led_front (suc k) [] = omega arith
+blank_led_front (suc k) (b ∷ w) = omega (arith, length-append (decimal b) (blank_led (take k w)), length-append (decimal b) (blank_led w), blank_led_front k w)
 
-pub front_short : (w : List ℕ) (k : ℕ) → ((u : ℕ) → get_or w u 0 < 100) → k ≤ length w → length (spaced (take k w)) ≤ 3 * k
-front_short w k h l = omega (arith, spaced_short (take k w) (front_low w k h), length-take-le k w l)
+-- a line is no shorter than its first bays
+pub line_front : (k : ℕ) (w : List ℕ) → length (spaced (take k w)) ≤ length (line w)
+line_front zero w = omega arith
+line_front (suc k) [] = omega arith
+line_front (suc k) (b ∷ w) =
+    omega (arith, length-append (spaced (b ∷ w)) (10 ∷ []), length-append (decimal b) (blank_led (take k w)), length-append (decimal b) (blank_led w), blank_led_front k w)
 
 pub line_short : (w : List ℕ) → ((u : ℕ) → get_or w u 0 < 100) → length w ≤ 24 → length (line w) ≤ 73
 line_short w h few = omega (arith, length-append (spaced w) (10 ∷ []), spaced_short w h)
@@ -104,7 +99,23 @@ lines_push (v ∷ ws) w = ap (λ t. line v ++ t) (lines_push ws w) ∙ sym (appe
 pub lines_more : (ws : List (List ℕ)) (k : ℕ) → k < length ws → lines (take (k + 1) ws) ≡ lines (take k ws) ++ line (get_or ws k [])
 lines_more ws k h = ap lines (take_more ws k [] h) ∙ lines_push (take k ws) (get_or ws k [])
 
-pub lines_short : (ws : List (List ℕ)) (k : ℕ) → ((i : ℕ) → i < length ws → length (line (get_or ws i [])) ≤ 73) → length (lines (take k ws)) ≤ 73 * k
+lines_short : (ws : List (List ℕ)) (k : ℕ) → ((i : ℕ) → i < length ws → length (line (get_or ws i [])) ≤ 73) → length (lines (take k ws)) ≤ 73 * k
 lines_short ws zero h = omega arith
 lines_short [] (suc k) h = omega arith
 lines_short (w ∷ ws) (suc k) h = omega (arith, length-append (line w) (lines (take k ws)), h 0 (omega arith), lines_short ws k (λ i l. h (suc i) (omega arith)))
+
+lines_front : (k : ℕ) (ws : List (List ℕ)) → length (lines (take k ws)) ≤ length (lines ws)
+lines_front zero ws = omega arith
+lines_front (suc k) [] = omega arith
+lines_front (suc k) (w ∷ ws) = omega (arith, length-append (line w) (lines (take k ws)), length-append (line w) (lines ws), lines_front k ws)
+
+last_short : (b : Bool) → length (cond b (codes "more\n") (codes "end\n")) ≤ 5
+last_short true = omega arith
+last_short false = omega arith
+
+-- the first lines of a listing are no longer than all of it, the last line too
+pub listing_front : (ws : List (List ℕ)) (k : ℕ) → k ≤ 20 → length (lines (take k ws)) ≤ length (listing_text ws)
+listing_front ws k h = omega (arith, lines_front k (take 20 ws), ap (λ t. length (lines t)) (take-take k 20 ws h), length-append (lines (take 20 ws)) (cond (ltb 20 (length ws)) (codes "more\n") (codes "end\n")))
+
+pub listing_length : (ws : List (List ℕ)) → ((i : ℕ) → i < length ws → length (line (get_or ws i [])) ≤ 73) → length (listing_text ws) ≤ 1536
+listing_length ws h = omega (arith, lines_short ws 20 h, last_short (ltb 20 (length ws)), length-append (lines (take 20 ws)) (cond (ltb 20 (length ws)) (codes "more\n") (codes "end\n")))

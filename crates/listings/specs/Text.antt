@@ -1,8 +1,9 @@
 -- The lines of a text. Assumes nothing.
-use Rattle.std.specs.Prelude.{◌≡◌, ℕ, ◌+◌, cond, List, [], ◌∷◌, ◌++◌, length, take, codes, decimal, ◌==◌, nat_lt}
+use Rattle.std.specs.Prelude.{◌≡◌, ℕ, ◌+◌, ◌<◌, cond, List, [], ◌∷◌, ◌++◌, length, take, codes, decimal, ◌==◌, nat_lt, Option, MatchOption}
 use Rattle.refusals.specs.declared.Told.{Told}
 use Rattle.refusals.specs.Numbers.{number_of}
-use Rattle.text.specs.Lay.{lay}
+use Rattle.text.specs.declared.Text.{Text}
+use Rattle.text.specs.Put.{Wrote}
 
 -- numbers in decimal, each with a blank before it
 abbrev pub blank_led : List ℕ → List ℕ
@@ -33,10 +34,9 @@ refusal_text t =
     codes "refused "
     ++ (decimal (number_of t.reason) ++ (32 ∷ (decimal t.layer ++ (32 ∷ (decimal t.place ++ (10 ∷ []))))))
 
--- bytes were written from the place `at` on, and the place behind them is answered
-pub record Wrote (bytes : List ℕ) (at : ℕ) (out out' : List ℕ) (r : ℕ) : Type 0 where
-  pub place : r ≡ at + length bytes
-  pub after : out' ≡ lay out at bytes
+-- what a call that writes bytes answers and leaves: they stand behind the text, or they do not fit
+pub record Writes (bytes : List ℕ) (t t' : Text) (r : Option (Unit {0})) : Type 0 where
+  pub cases : MatchOption r ((length t.out.now < t.len + length bytes) × (t'.out.ghost_name ≡ t.out.ghost_name)) (λ _. Wrote bytes t t')
 
 -- a number of a line, with a blank before it unless it is the first
 abbrev pub numbered : (index number : ℕ) → List ℕ

@@ -2,9 +2,8 @@
 #![tactic(auto)]
 
 mod call;
-mod cards;
 mod list;
 mod plan;
 mod put;
 
-pub use call::{JobAnswer, planbench_job};
+pub use call::planbench_job;

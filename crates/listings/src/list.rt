@@ -1,41 +1,38 @@
 // Lists the placements of a job.
-ghost use Rattle.std.specs.Prelude.{◌≡◌, ◌+◌, ◌≤◌, length, if◌then◌else◌, None, codes};
+ghost use Rattle.std.specs.Prelude.{◌≡◌, if◌then◌else◌, None, codes};
 ghost use Rattle.plans.specs.Step.{view as held};
 ghost use Rattle.jobs.specs.Form.{JobLawful, view as form};
-ghost use Rattle.listings.specs.Text.{Wrote};
+ghost use Rattle.listings.specs.Text.{Writes};
 ghost use Rattle.listings.specs.Fitted.{fitted_ledger};
-ghost use Rattle.listings.specs.JobText.{WroteListing};
+ghost use Rattle.listings.specs.JobText.{WritesListing};
 
-use crate::put::{write_bytes, write_line};
+use crate::put::write_line;
 use consistency::ArcConsistency;
 use degree::Degree;
 use filters::Then;
 use jobs::Job;
 use plans::plan::Plan;
 use sources::JointTable;
+use text::Text;
 
 // How many placements a text lists at most.
 const MOST: usize = 20;
 
 // Whether there are further placements, behind those that are listed.
-fn write_last(out: &mut [u8], at: usize, further: bool) -> usize
-    requires { at + 5 ≤ length out.old }
-    ensures near { result ≤ at + 5 }
-    ensures wrote { Wrote (if further then codes "more\n" else codes "end\n") at out.old out.new result }
+fn write_last(text: &mut Text, further: bool) -> Option<()>
+    ensures { Writes (if further then codes "more\n" else codes "end\n") text.old text.new result }
 {
     if further {
-        write_bytes(out, at, b"more\n")
+        text.put(b"more\n")
     } else {
-        write_bytes(out, at, b"end\n")
+        text.put(b"end\n")
     }
 }
 
-pub(crate) fn write_listing(out: &mut [u8], mut plan: Plan, job: &Job) -> usize
-    requires room { 1536 ≤ length out.old }
+pub(crate) fn write_listing(text: &mut Text, mut plan: Plan, job: &Job) -> Option<()>
     requires lawful { JobLawful (form job.now) }
     requires fitted { held plan ≡ fitted_ledger (form job.now) None }
-    ensures near { result ≤ 1536 }
-    ensures listing { WroteListing (form job.now) out.old out.new result }
+    ensures { WritesListing (form job.now) text.old text.new result }
 {
     let arrangement = JointTable::new(job.arrangement.rows(), job.arrangement.columns());
     let room = JointTable::new(job.room.rows(), job.room.columns());
@@ -46,17 +43,17 @@ pub(crate) fn write_listing(out: &mut [u8], mut plan: Plan, job: &Job) -> usize
     };
     let units = job.struck.rows().len();
     let mut bays = [0; 24];
-    let mut at = 0;
-    let mut listed = 0;
     let mut found = plan
         .seek(&arrangement, &room, strict, &filter, &mut bays)
         .is_ok();
-    while found && listed < MOST {
-        at = write_line(out, at, &bays[0..units]);
-        listed += 1;
+    for _listed in 0..MOST {
+        if !found {
+            break;
+        }
+        write_line(text, &bays[..units])?;
         found = plan
             .further(&arrangement, &room, strict, &filter, &mut bays)
             .is_ok();
     }
-    write_last(out, at, found)
+    write_last(text, found)
 }

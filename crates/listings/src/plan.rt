@@ -8,20 +8,24 @@ ghost use Rattle.jobs.specs.Form.{JobLawful, view as form};
 ghost use Rattle.listings.specs.Suited.{cards_of};
 ghost use Rattle.listings.specs.Fitted.{fitted_ledger};
 
-use crate::cards::{bay_cards, unit_cards};
-use books::{Clearance, EditionOne, EditionTwo};
+use books::{Clearance, EditionOne, EditionTwo, HeightCard, KindCard};
 use jobs::{Edition, Job};
 use plans::plan::Plan;
 use plans::refusal::Refusal;
+use std::array;
 
 fn fit_plan(plan: &mut Plan, job: &Job) -> Result<(), Refusal>
     requires { JobLawful (form job.now) }
     ensures { Step plan.old (turn (fit (cards_of (form job.now))) (doing result) []) plan.new }
 {
-    let kinds = unit_cards(job.kinds());
-    let heights = bay_cards(job.heights());
-    let units = &kinds[0..job.kinds().len()];
-    let bays = &heights[0..job.heights().len()];
+    let (kinds, heights) = (job.kinds(), job.heights());
+    let units: [KindCard; 64] = array::from_fn(|u| KindCard {
+        kind: kinds.get(u).copied().unwrap_or(0),
+    });
+    let bays: [HeightCard; 64] = array::from_fn(|b| HeightCard {
+        height: heights.get(b).copied().unwrap_or(0),
+    });
+    let (units, bays) = (&units[..kinds.len()], &bays[..heights.len()]);
     match job.edition {
         Edition::One => plan.fit(&Clearance(EditionOne), units, bays),
         Edition::Two => plan.fit(&Clearance(EditionTwo), units, bays),

@@ -1,67 +1,44 @@
-use Rattle.std.proofs.Common.{◌≡◌, ℕ, ◌+◌, ◌-◌, ◌<◌, ◌≤◌, Bool, false, ◌&&◌, ltb, List, length, get_or, take, sym, refl, ap, subst, arith}
-use Rattle.std.proofs.lemmas.Bool.{and_left, and_right, le-ltb}
+use Rattle.std.proofs.Common.{◌≡◌, ◌≤◌, true, refl, arith}
+use Rattle.std.proofs.lemmas.Bool.{both_ways}
 use Rattle.jobs.specs.Form.{view}
-use Rattle.listings.specs.Text.{line, Wrote}
-use Rattle.listings.proofs.Going.{At, seek_at, further_at}
-use Rattle.listings.proofs.Listing.{written_none, written_more, written_all, near, line_few, line_low}
+use Rattle.listings.proofs.Going.{seek_at, further_at}
+use Rattle.listings.proofs.Listing.{written_none, written_more, written_unfit, written_all}
 use Rattle.listings.proofs.Taking.{taken_as}
 use Rattle.listings.proofs.list.write_listing.Goals as goal
-use Rattle.listings.proofs.list.write_listing.Goals.{then-loop-found-test+else-listed-lt-MOST, else-loop-found-test}
+use Rattle.listings.proofs.list.write_listing.Goals.{else-loop-listed-test, then-loop-listed-test+then-not-found}
 
-pub loop-found-init : goal.loop-found-init
-loop-found-init c =
+pub loop-listed-init : goal.loop-listed-init
+loop-listed-init c =
     let j = view c.args.job.now in
     let law = c.requires.lawful in
     let ea = taken_as j.arrangement _ _ _ law.arrangement c.rows.ensures.value c.columns.ensures c.new-arrangement.ensures in
     let er = taken_as j.room _ _ _ law.room c.rows-2.ensures.value c.columns-2.ensures c.new-room.ensures in
-    let at = seek_at j law _ ea er c.is_strict-strict.ensures _ _ c.seek.result _ _ refl c.requires.fitted c.seek.ensures.step in
-    written_none j law c.args.out.now _ _ _
-    (subst (λ (b : Bool). At j 0 b c.seek.new.out c.seek.new.self) (sym c.is_ok-found.ensures.value) at)
+    written_none (rw c.is_ok-found.ensures.value (seek_at j law _ ea er c.is_strict-strict.ensures _ _ c.seek.result _ _ refl c.requires.fitted c.seek.ensures.step))
 
--- the line that the loop writes
-units_front : (n m : ℕ) (bays : List ℕ) → n ≡ m → take (n - 0) bays ≡ take m bays
-units_front n m bays e = ap (λ k. take k bays) (let z : n - 0 ≡ m = omega arith in z)
+pub returns-in_err-write_line : goal.returns-in_err-write_line
+returns-in_err-write_line c =
+    rw c.from_residual.ensures
+    (written_unfit c.loop-listed.invariant c.if-not-found.false (omega arith)
+    (rw (← c.rows-units.ensures.value) c.in_err-write_line.ensures))
 
-pub write_line-at-requires : goal.write_line-at-requires
-write_line-at-requires c =
+pub loop-listed-preserved : goal.loop-listed-preserved
+loop-listed-preserved c =
     let j = view c.args.job.now in
     let law = c.requires.lawful in
-    let g = c.loop-found.invariant in
-    let front = units_front (length c.rows-units.result.now) (length j.struck.rows) c.loop-found.bays (ap length c.rows-units.ensures.value) in
-    record {
-      few = subst (λ (w : List ℕ). length w ≤ 24) (sym front) (line_few j law g c.loop-found-test.true);
-      low = λ u. subst (λ (w : List ℕ). get_or w u 0 < 100) (sym front) (line_low j law g c.loop-found-test.true u);
-      room = omega (arith, near j law g, c.if-listed-lt-MOST.true, c.requires.room);
-    }
-
-pub loop-found-preserved : goal.loop-found-preserved
-loop-found-preserved c =
-    let j = view c.args.job.now in
-    let law = c.requires.lawful in
-    let g = c.loop-found.invariant in
+    let g = c.loop-listed.invariant in
     let ea = taken_as j.arrangement _ _ _ law.arrangement c.rows.ensures.value c.columns.ensures c.new-arrangement.ensures in
     let er = taken_as j.room _ _ _ law.room c.rows-2.ensures.value c.columns-2.ensures c.new-room.ensures in
-    let front = units_front (length c.rows-units.result.now) (length j.struck.rows) c.loop-found.bays (ap length c.rows-units.ensures.value) in
-    let at = further_at j law _ ea er c.is_strict-strict.ensures _ _ c.further.result _ _ g.stands.long c.loop-found.listed
-    (g.stands.listed c.loop-found-test.true) (g.stands.last c.loop-found-test.true) c.further.ensures.step in
-    written_more j law g c.loop-found-test.true _ _ _ _ _ c.if-listed-lt-MOST.true
-    (subst (λ (w : List ℕ). Wrote (line w) c.loop-found.at c.loop-found.out c.write_line-at.new.out c.write_line-at.result) front c.write_line-at.ensures)
-    (subst (λ (b : Bool). At j (c.loop-found.listed + 1) b c.further.new.out c.further.new.self) (sym c.is_ok-found-in-loop-found.ensures.value) at)
-
-pub write_last-requires : goal.write_last-requires
-write_last-requires c =
-    let g = c.loop-found.invariant in
-    omega (arith, near (view c.args.job.now) c.requires.lawful g, g.few, c.requires.room)
+    let found = c.if-not-found.false in
+    let at = further_at j law _ ea er c.is_strict-strict.ensures _ _ c.further.result _ _ g.stands.long c.loop-listed._listed (g.stands.listed found) (g.stands.last found) c.further.ensures.step in
+    written_more g found
+    (rw (← c.rows-units.ensures.value) c.in_ok-write_line.ensures.cases)
+    (rw c.is_ok-found-in-loop-listed.ensures.value at)
 
 pub returns : goal.returns
 returns c =
-    let stops : (c.loop-found.found && ltb c.loop-found.listed 20) ≡ false =
-    elim c.loop-found-test.branch [
-      | then-loop-found-test+else-listed-lt-MOST w ↦ and_right _ _ (le-ltb c.loop-found.listed 20 w.if-listed-lt-MOST.false)
-      | else-loop-found-test w ↦ and_left _ _ w.loop-found-test.false
+    let full : c.loop-listed.found ≡ true → 20 ≤ c.loop-listed._listed =
+    λ t. elim c.loop-listed-test.branch [
+      | else-loop-listed-test w ↦ omega (arith, w.loop-listed-test.false)
+      | then-loop-listed-test+then-not-found w ↦ absurd (both_ways _ w.if-not-found.true t)
     ] in
-    let g = c.loop-found.invariant in
-    record {
-      near = omega (arith, near (view c.args.job.now) c.requires.lawful g, g.few, c.write_last.ensures.near);
-      listing = written_all (view c.args.job.now) c.requires.lawful g _ _ stops c.write_last.ensures.wrote;
-    }
+    written_all c.loop-listed.invariant (omega arith) full c.write_last.ensures
