@@ -3,7 +3,7 @@ use Rattle.std.proofs.Common.{◌≡◌, ℕ, zero, suc, ◌+◌, ◌/◌, ◌%�
 use Rattle.std.specs.Fmt.{digits, digits_onto, digit_glyph}
 use Rattle.placements.proofs.Orders.{lists_unique}
 use Rattle.refusals.specs.declared.Told.{Told}
-use Rattle.refusals.specs.Numbers.{number_of}
+use Rattle.refusals.specs.Numbers.{number_of, layer_of}
 use Rattle.jobs.specs.declared.fault.JobFault.{JobFault}
 use Rattle.jobs.specs.Form.{JobForm}
 use Rattle.jobs.specs.Read.{read_job}
@@ -48,14 +48,14 @@ pub refusal_short : (t : Told) → length (refusal_text t) ≤ 1536
 refusal_short t =
     let n = number_of t.reason in
     let last = decimal t.place ++ (10 ∷ []) in
-    let rest = decimal t.layer ++ (32 ∷ last) in
+    let rest = decimal (layer_of t.layer) ++ (32 ∷ last) in
     omega (
       arith,
       decimal_few n,
-      decimal_few t.layer,
+      decimal_few (layer_of t.layer),
       decimal_few t.place,
       length-append (codes "refused ") (decimal n ++ (32 ∷ rest)),
       length-append (decimal n) (32 ∷ rest),
-      length-append (decimal t.layer) (32 ∷ last),
+      length-append (decimal (layer_of t.layer)) (32 ∷ last),
       length-append (decimal t.place) (10 ∷ []),
     )

@@ -1,7 +1,7 @@
 -- The lines of a text. Assumes nothing.
 use Rattle.std.specs.Prelude.{◌≡◌, ℕ, ◌+◌, ◌<◌, cond, List, [], ◌∷◌, ◌++◌, length, take, codes, decimal, ◌==◌, nat_lt, Option, MatchOption}
 use Rattle.refusals.specs.declared.Told.{Told}
-use Rattle.refusals.specs.Numbers.{number_of}
+use Rattle.refusals.specs.Numbers.{number_of, layer_of}
 use Rattle.text.specs.declared.Text.{Text}
 use Rattle.text.specs.Put.{Wrote}
 
@@ -32,7 +32,7 @@ listing_text ws = lines (take 20 ws) ++ cond (nat_lt 20 (length ws)) (codes "mor
 abbrev pub refusal_text : Told → List ℕ
 refusal_text t =
     codes "refused "
-    ++ (decimal (number_of t.reason) ++ (32 ∷ (decimal t.layer ++ (32 ∷ (decimal t.place ++ (10 ∷ []))))))
+    ++ (decimal (number_of t.reason) ++ (32 ∷ (decimal (layer_of t.layer) ++ (32 ∷ (decimal t.place ++ (10 ∷ []))))))
 
 -- what a call that writes bytes answers and leaves: they stand behind the text, or they do not fit
 pub record Writes (bytes : List ℕ) (t t' : Text) (r : Option (Unit {0})) : Type 0 where

@@ -23,7 +23,7 @@ fn write_job(text: &mut Text, input: &[u8]) -> Option<()>
             let plan = fitted_plan(&job, &input[plan_at..]);
             write_listing(text, plan, &job)
         }
-        Err(fault) => write_refusal(text, fault.told()),
+        Err(fault) => write_refusal(text, fault.into()),
     }
 }
 

@@ -1,7 +1,7 @@
 // Lists the placements of a job.
 ghost use Rattle.std.specs.Prelude.{◌≡◌, if◌then◌else◌, None, codes};
 ghost use Rattle.plans.specs.Step.{view as held};
-ghost use Rattle.jobs.specs.Form.{JobLawful, view as form};
+ghost use Rattle.jobs.specs.Held.{view as form};
 ghost use Rattle.listings.specs.Text.{Writes};
 ghost use Rattle.listings.specs.Fitted.{fitted_ledger};
 ghost use Rattle.listings.specs.JobText.{WritesListing};
@@ -11,6 +11,7 @@ use consistency::ArcConsistency;
 use degree::Degree;
 use filters::Then;
 use jobs::Job;
+use placements::Problem;
 use plans::plan::Plan;
 use sources::JointTable;
 use text::Text;
@@ -30,30 +31,27 @@ fn write_last(text: &mut Text, further: bool) -> Option<()>
 }
 
 pub(crate) fn write_listing(text: &mut Text, mut plan: Plan, job: &Job) -> Option<()>
-    requires lawful { JobLawful (form job.now) }
-    requires fitted { held plan ≡ fitted_ledger (form job.now) None }
+    requires { held plan ≡ fitted_ledger (form job.now) None }
     ensures { WritesListing (form job.now) text.old text.new result }
 {
-    let arrangement = JointTable::new(job.arrangement.rows(), job.arrangement.columns());
-    let room = JointTable::new(job.room.rows(), job.room.columns());
-    let strict = job.mode.is_strict();
+    let problem = Problem {
+        arrangement: &JointTable::new(job.arrangement.rows(), job.arrangement.columns()),
+        room: &JointTable::new(job.room.rows(), job.room.columns()),
+        strict: job.mode.is_strict(),
+    };
     let filter = Then {
         first: Degree,
         second: ArcConsistency,
     };
     let units = job.struck.rows().len();
     let mut bays = [0; 24];
-    let mut found = plan
-        .seek(&arrangement, &room, strict, &filter, &mut bays)
-        .is_ok();
+    let mut found = plan.seek(&problem, &filter, &mut bays).is_ok();
     for _listed in 0..MOST {
         if !found {
             break;
         }
         write_line(text, &bays[..units])?;
-        found = plan
-            .further(&arrangement, &room, strict, &filter, &mut bays)
-            .is_ok();
+        found = plan.further(&problem, &filter, &mut bays).is_ok();
     }
     write_last(text, found)
 }

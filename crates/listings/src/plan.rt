@@ -4,7 +4,7 @@ ghost use Rattle.saved.specs.Plan.{plan_bytes};
 ghost use Rattle.ledgers.specs.Calls.{fit};
 ghost use Rattle.plans.specs.Refused.{doing};
 ghost use Rattle.plans.specs.Step.{Step, turn, view as held};
-ghost use Rattle.jobs.specs.Form.{JobLawful, view as form};
+ghost use Rattle.jobs.specs.Held.{view as form};
 ghost use Rattle.listings.specs.Suited.{cards_of};
 ghost use Rattle.listings.specs.Fitted.{fitted_ledger};
 
@@ -15,7 +15,6 @@ use plans::refusal::Refusal;
 use std::array;
 
 fn fit_plan(plan: &mut Plan, job: &Job) -> Result<(), Refusal>
-    requires { JobLawful (form job.now) }
     ensures { Step plan.old (turn (fit (cards_of (form job.now))) (doing result) []) plan.new }
 {
     let (kinds, heights) = (job.kinds(), job.heights());
@@ -34,8 +33,7 @@ fn fit_plan(plan: &mut Plan, job: &Job) -> Result<(), Refusal>
 
 // The plan that is saved in `bytes`, fitted.
 pub(crate) fn fitted_plan(job: &Job, bytes: &[u8]) -> Plan
-    requires lawful { JobLawful (form job.now) }
-    requires saved { bytes.now ≡ plan_bytes (form job.now).struck }
+    requires { bytes.now ≡ plan_bytes (form job.now).struck }
     ensures { held result ≡ fitted_ledger (form job.now) None }
 {
     let mut plan = Plan::new();

@@ -39,8 +39,8 @@ pub(crate) fn write_refusal(text: &mut Text, told: Told) -> Option<()>
     ensures { Writes (refusal_text told) text.old text.new result }
 {
     text.put(b"refused")?;
-    write_next(text, usize::from(told.reason.number()))?;
-    write_next(text, usize::from(told.layer))?;
+    write_next(text, usize::from(u8::from(told.reason)))?;
+    write_next(text, usize::from(u8::from(told.layer)))?;
     write_next(text, told.place)?;
     text.put(b"\n")
 }

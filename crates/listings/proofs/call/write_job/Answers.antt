@@ -10,7 +10,7 @@ returns-in-Ok-clause-job c =
     record {
       text = w.text;
       of_job = text_listed c.args.input.now _ _ c.in-Ok.ensures.value w.listed;
-      few = listing_short _ c.in-Ok.ensures.lawful _ w.listed;
+      few = listing_short _ c.in-Ok.job.lawful _ w.listed;
       writes = w.writes;
     }
 
@@ -20,5 +20,5 @@ returns-in-Err-clause-job c =
       text = refusal_text (job_told c.in-Err.fault);
       of_job = text_refused c.args.input.now _ c.in-Err.ensures.value;
       few = refusal_short _;
-      writes = rw (← c.told.ensures) c.write_refusal.ensures;
+      writes = rw (← c.into.ensures) c.write_refusal.ensures;
     }

@@ -1,4 +1,4 @@
-use Rattle.jobs.specs.Form.{view}
+use Rattle.jobs.specs.Held.{view}
 use Rattle.listings.proofs.Listing.{Written}
 use Rattle.listings.proofs.list.write_listing.Given as goal
 
