@@ -38,8 +38,7 @@ mod tests {
     fn twenty_then_end(rt: HostRuntime) {
         let mut out = [7; 1536];
         let answer = planbench_job(&twenty_bays(), &mut out);
-        assert_eq!(rt; answer.declined, 0);
-        assert_eq!(rt; answer.written, 54);
+        assert_eq!(rt; answer, Ok(54));
         assert_eq!(rt; out[47], b'1');
         assert_eq!(rt; out[48], b'9');
         assert_eq!(rt; out[49], b'\n');
@@ -52,7 +51,7 @@ mod tests {
     fn twenty_first_is_not_listed(rt: HostRuntime) {
         let mut out = [7; 1536];
         let answer = planbench_job(&one_bay_more(), &mut out);
-        assert_eq!(rt; answer.written, 55);
+        assert_eq!(rt; answer, Ok(55));
         assert_eq!(rt; out[50], b'm');
         assert_eq!(rt; out[55], 7);
     }
@@ -62,8 +61,7 @@ mod tests {
     fn short_buffer(rt: HostRuntime) {
         let mut out = [7; 1535];
         let answer = planbench_job(&[9], &mut out);
-        assert_eq!(rt; answer.declined, 18);
-        assert_eq!(rt; answer.written, 0);
+        assert_eq!(rt; answer.map_err(|reason| reason.number()), Err(18));
         assert_eq!(rt; out[0], 7);
     }
 
@@ -71,8 +69,7 @@ mod tests {
     fn refused(rt: HostRuntime) {
         let mut out = [7; 1536];
         let answer = planbench_job(&[0, 3, 0], &mut out);
-        assert_eq!(rt; answer.declined, 0);
-        assert_eq!(rt; answer.written, 15);
+        assert_eq!(rt; answer, Ok(15));
         assert_eq!(rt; out[8], b'1');
         assert_eq!(rt; out[9], b'2');
         assert_eq!(rt; out[11], b'3');

@@ -2,9 +2,38 @@
 #![tactic(auto)]
 
 ghost use Rattle.std.specs.Prelude.{◌<◌, ◌≤◌, length};
-ghost use Rattle.listings.specs.JobText.{Declined, Answered, OneText};
+ghost use Rattle.listings.specs.JobText.{OneText};
+ghost use Rattle.listings_c.specs.Answer.{Declined, Answered};
 
-use listings::JobAnswer;
+use refusals::Reason;
+
+// What a job call answers: 0 and the length of the text, or the number of the refusal and no text.
+#[derive(Clone, Copy)]
+#[repr(C)]
+pub struct JobAnswer {
+    pub declined: u32,
+    pub written: usize,
+}
+
+impl From<Result<usize, Reason>> for JobAnswer {
+    ghost use Rattle.std.specs.Prelude.{◌≡◌};
+    ghost use Rattle.listings_c.specs.Answer.{in_c};
+
+    ghost from_gives = { λ answer r. r ≡ in_c answer };
+
+    fn from(answer: Result<usize, Reason>) -> JobAnswer {
+        match answer {
+            Ok(written) => JobAnswer {
+                declined: 0,
+                written,
+            },
+            Err(reason) => JobAnswer {
+                declined: u32::from(reason.number()),
+                written: 0,
+            },
+        }
+    }
+}
 
 // Writes the text of the job that the input holds.
 #[unsafe(no_mangle)]
@@ -14,5 +43,5 @@ pub extern "C" fn planbench_job(input: &[u8], output: &mut [u8]) -> JobAnswer
     ensures within { result.written ≤ 1536 }
     ensures one_text { OneText }
 {
-    listings::planbench_job(input, output)
+    JobAnswer::from(listings::planbench_job(input, output))
 }

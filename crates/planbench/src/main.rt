@@ -26,6 +26,8 @@ fn main(rt: HostRuntime) -> io::Result<()> {
     let mut input = [0u8; 4096];
     let mut output = [0u8; 1536];
     let len = fill(&mut rt.stdin(), &mut input)?;
-    let written = planbench_job(&input[0..len], &mut output).written;
-    rt.stdout().write_all(&output[0..written])
+    let Ok(written) = planbench_job(&input[..len], &mut output) else {
+        unreachable()
+    };
+    rt.stdout().write_all(&output[..written])
 }
