@@ -121,13 +121,12 @@ impl Plan {
         ensures shows { Shows (what_if unit bay (setting (A.Source.graph arrangement.now) (R.Source.graph room.now) strict (F.Filter.left filter.now))) }
     {
         self.in_range(unit, bay)?;
-        let units = self.units;
         // A copy, since the fitted rows are lent out until the guard is dropped.
         let struck = self.struck;
         let Some(fitted) = &mut self.fitted else {
             return Err(Refusal::NoFit);
         };
-        same_counts(arrangement, room, units, self.bays)?;
+        same_counts(arrangement, room, self.units, self.bays)?;
         let saved = fitted[unit];
         let guard = Narrowed {
             rows: fitted,
@@ -136,7 +135,7 @@ impl Plan {
         };
         guard.rows[unit] = saved & (1 << bay);
         let rows = without(guard.rows, &struck);
-        let find = outcome(first(arrangement, room, strict, filter, &rows[..units]))?;
+        let find = outcome(first(arrangement, room, strict, filter, &rows[..self.units]))?;
         Ok(find.tries)
     }
 }
