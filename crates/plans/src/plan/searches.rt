@@ -121,8 +121,7 @@ impl Plan {
         ensures shows { Shows (what_if unit bay (setting (A.Source.graph arrangement.now) (R.Source.graph room.now) strict (F.Filter.left filter.now))) }
     {
         self.in_range(unit, bay)?;
-        // A copy, since the fitted rows are lent out until the guard is dropped.
-        let struck = self.struck;
+        let struck = &self.struck;
         let Some(fitted) = &mut self.fitted else {
             return Err(Refusal::NoFit);
         };
@@ -134,7 +133,7 @@ impl Plan {
             saved,
         };
         guard.rows[unit] = saved & (1 << bay);
-        let rows = without(guard.rows, &struck);
+        let rows = without(guard.rows, struck);
         let find = outcome(first(arrangement, room, strict, filter, &rows[..self.units]))?;
         Ok(find.tries)
     }
