@@ -111,13 +111,11 @@ impl Plan {
         ensures shows { Shows (what_if unit bay (setting (A.Source.graph problem.now.arrangement.now) (R.Source.graph problem.now.room.now) problem.now.strict (F.Filter.left filter.now))) }
     {
         self.in_range(unit, bay)?;
-        let units = self.units;
-        // A copy, since the fitted rows are lent out until the guard is dropped.
-        let struck = self.struck;
+        let struck = &self.struck;
         let Some(fitted) = &mut self.fitted else {
             return Err(Refusal::NoFit);
         };
-        same_counts(problem, units, self.bays)?;
+        same_counts(problem, self.units, self.bays)?;
         let saved = fitted[unit];
         let guard = Narrowed {
             rows: fitted,
@@ -125,8 +123,8 @@ impl Plan {
             saved,
         };
         guard.rows[unit] = saved & (1 << bay);
-        let rows = without(guard.rows, &struck);
-        let find = outcome(first(problem, filter, &rows[..units]))?;
+        let rows = without(guard.rows, struck);
+        let find = outcome(first(problem, filter, &rows[..self.units]))?;
         Ok(find.tries)
     }
 }
