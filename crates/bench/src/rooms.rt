@@ -93,30 +93,30 @@ impl Family {
         number: u64,
         measure: &M,
     ) -> io::Result<()> {
-        let room = self.room(alloc, number)?;
-        let arrangement = &JointTable::new(room.units.rows(), room.units.count);
+        let drawn = self.room(alloc, number)?;
+        let arrangement = &JointTable::new(drawn.units.rows(), drawn.units.count);
         let strict = self.strict;
         match self.bays {
             Shape::Wall { columns, levels } => {
-                let room_source = &WallGrid::new(columns, levels);
+                let room = &WallGrid::new(columns, levels);
                 measure.print(
                     Problem {
                         arrangement,
-                        room: room_source,
+                        room,
                         strict,
                     },
-                    &room.open,
+                    &drawn.open,
                 )
             }
             _ => {
-                let room_source = &JointTable::new(room.bays.rows(), room.bays.count);
+                let room = &JointTable::new(drawn.bays.rows(), drawn.bays.count);
                 measure.print(
                     Problem {
                         arrangement,
-                        room: room_source,
+                        room,
                         strict,
                     },
-                    &room.open,
+                    &drawn.open,
                 )
             }
         }

@@ -6,7 +6,7 @@ use graphs::Source;
 use placements::Problem;
 use search::{Find, SearchError, first, next_after};
 
-// A case for the second search, and the same as the search is asked it.
+// A case for the second search, and the same as the search is asked it. The filter is lent for longer, so it has a lifetime of its own.
 #[derive_where(Clone, Copy)]
 pub(crate) struct Comparison<'a, 'f, A, R, F> {
     pub case: &'a Case,
