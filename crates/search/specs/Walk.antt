@@ -6,6 +6,7 @@ use Rattle.graphs.specs.Rows.{bit, row_of}
 use Rattle.graphs.specs.Graph.{Graph}
 use Rattle.placements.specs.Agreement.{agrees}
 use Rattle.filters.specs.Filter.{Meaning, empty_count, shaped}
+use Rattle.search.specs.declared.Walk.{Walk}
 
 -- what a search is shown
 pub record Setting : Type 0 where
@@ -17,6 +18,10 @@ pub record Setting : Type 0 where
 -- the same from its parts
 abbrev pub setting : Graph → Graph → Bool → Meaning → Setting
 setting a r s f = record { arrangement = a; room = r; strict = s; filter = f }
+
+-- what a walk is shown, by what its arrangement, its room and its filter mean
+abbrev pub asked : {A R F : Type 0} → (A → Graph) → (R → Graph) → (F → Meaning) → Walk A R F → Setting
+asked a r f walk = setting (a walk.problem.now.arrangement.now) (r walk.problem.now.room.now) walk.problem.now.strict (f walk.filter.now)
 
 -- the rows that the filter leaves
 abbrev pub filtered : Setting → List ℕ → List ℕ

@@ -6,7 +6,7 @@ ghost use Rattle.graphs.specs.Rows.{bit, row_of};
 ghost use Rattle.placements.specs.Agreement.{agrees_if};
 ghost use Rattle.filters.specs.Filter.{shaped};
 ghost use Rattle.search.specs.Masks.{picked};
-ghost use Rattle.search.specs.Walk.{any_empty, narrowed, after_try, offered, chosen, setting, settle_after, walk, LeftBy};
+ghost use Rattle.search.specs.Walk.{any_empty, narrowed, after_try, offered, chosen, setting, asked, settle_after, walk, LeftBy};
 ghost use Rattle.search.specs.Found.{padded, found_with, answer_with, answer_of, Sought, SoughtAfter, Searched, FindsFirst, FindsNext, FiltersAlike};
 ghost use Rattle.placements.specs.Morphisms.{OpenIsMono, StrictIsInduced};
 ghost use Rattle.search.specs.Tries.{CountsTries};
@@ -46,50 +46,27 @@ struct Walk<'a, A, R, F> {
 }
 
 impl Masks {
+    // The joints are read from the other unit.
     fn new<A: Source, R: Source>(problem: &Problem<A, R>, b: usize) -> Masks
         ensures { (out back : Bool) → picked result out back ≡ row_of (R.Source.graph problem.now.room.now).count (λ c. agrees_if (R.Source.graph problem.now.room.now) out back problem.now.strict b c) }
     {
+        let mask = |out, back| problem.agreeing(Joined { out, back }, b);
         Masks {
-            both: problem.agreeing(
-                Joined {
-                    out: true,
-                    back: true,
-                },
-                b,
-            ),
-            out: problem.agreeing(
-                Joined {
-                    out: false,
-                    back: true,
-                },
-                b,
-            ),
-            back: problem.agreeing(
-                Joined {
-                    out: true,
-                    back: false,
-                },
-                b,
-            ),
-            apart: problem.agreeing(
-                Joined {
-                    out: false,
-                    back: false,
-                },
-                b,
-            ),
+            both: mask(true, true),
+            out: mask(false, true),
+            back: mask(true, false),
+            apart: mask(false, false),
         }
     }
 
-    fn of(&self, out: bool, back: bool) -> u64
-        ensures { result ≡ picked self.now out back }
+    fn of(&self, joined: Joined) -> u64
+        ensures { result ≡ picked self.now joined.out joined.back }
     {
-        if out {
-            if back { self.both } else { self.out }
-        } else if back {
-            self.back
-        } else {
-            self.apart
+        match (joined.out, joined.back) {
+            (true, true) => self.both,
+            (true, false) => self.out,
+            (false, true) => self.back,
+            (false, false) => self.apart,
         }
     }
 }
@@ -146,8 +123,13 @@ impl<'a, A: Source, R: Source, F: Filter> Walk<'a, A, R, F> {
         next.copy_from_slice(rows);
         next[u] = 1 << b;
         let mut changed: u64 = 1 << u;
+        // The index stays: `next` is written at it too, and of what an adapter of `iter_mut` wrote nothing is known.
         for v in u + 1..rows.len() {
-            let kept = rows[v] & masks.of(holds(out, v), holds(back, v));
+            let joined = Joined {
+                out: holds(out, v),
+                back: holds(back, v),
+            };
+            let kept = rows[v] & masks.of(joined);
             changed = mark(changed, v, kept != rows[v]);
             next[v] = kept;
         }
@@ -158,8 +140,8 @@ impl<'a, A: Source, R: Source, F: Filter> Walk<'a, A, R, F> {
     fn attempt(&self, u: usize, b: usize, rows: &[u64], next: &mut [u64]) -> bool
         requires same { length next.old ≡ length rows.now }
         requires held { bit (slice_index rows.now u) b ≡ true }
-        requires left { let w = setting (A.Source.graph self.now.problem.now.arrangement.now) (R.Source.graph self.now.problem.now.room.now) self.now.problem.now.strict (F.Filter.left self.now.filter.now) in LeftBy w rows.now }
-        ensures left { let w = setting (A.Source.graph self.now.problem.now.arrangement.now) (R.Source.graph self.now.problem.now.room.now) self.now.problem.now.strict (F.Filter.left self.now.filter.now) in next.new ≡ after_try w u b rows.now }
+        requires left { LeftBy (asked A.Source.graph R.Source.graph F.Filter.left self.now) rows.now }
+        ensures left { next.new ≡ after_try (asked A.Source.graph R.Source.graph F.Filter.left self.now) u b rows.now }
         ensures empty { result ≡ any_empty next.new }
     {
         let changed = self.narrow(u, b, rows, next);
@@ -177,8 +159,8 @@ impl<'a, A: Source, R: Source, F: Filter> Walk<'a, A, R, F> {
         tries: u32,
     ) -> Result<Find, u32>
         requires lasting { IfSome last (λ l. length rows.now ≤ length l.now) }
-        requires left { let w = setting (A.Source.graph self.now.problem.now.arrangement.now) (R.Source.graph self.now.problem.now.room.now) self.now.problem.now.strict (F.Filter.left self.now.filter.now) in LeftBy w rows.now }
-        ensures { let w = setting (A.Source.graph self.now.problem.now.arrangement.now) (R.Source.graph self.now.problem.now.room.now) self.now.problem.now.strict (F.Filter.left self.now.filter.now) in let o = settle_after w (option_copied last.entry) (length rows.now - u) u rows.now in result ≡ found_with o.found (tries + o.tries) }
+        requires left { LeftBy (asked A.Source.graph R.Source.graph F.Filter.left self.now) rows.now }
+        ensures { let o = settle_after (asked A.Source.graph R.Source.graph F.Filter.left self.now) (option_copied last.entry) (length rows.now - u) u rows.now in result ≡ found_with o.found (tries + o.tries) }
     {
         if u >= rows.len() {
             return Ok(Find {
@@ -207,7 +189,7 @@ impl<'a, A: Source, R: Source, F: Filter> Walk<'a, A, R, F> {
     fn search_rows(&self, last: Option<&[u8]>, rows: &[u64]) -> Result<Find, SearchError>
         requires shape { shaped (A.Source.graph self.now.problem.now.arrangement.now) (R.Source.graph self.now.problem.now.room.now) rows.now ≡ true }
         requires lasting { IfSome last (λ l. length rows.now ≤ length l.now) }
-        ensures { let w = setting (A.Source.graph self.now.problem.now.arrangement.now) (R.Source.graph self.now.problem.now.room.now) self.now.problem.now.strict (F.Filter.left self.now.filter.now) in let o = walk w (option_copied last.entry) rows.now in result ≡ answer_with o.found o.tries }
+        ensures { let o = walk (asked A.Source.graph R.Source.graph F.Filter.left self.now) (option_copied last.entry) rows.now in result ≡ answer_with o.found o.tries }
     {
         let mut start = [0u64; 24];
         let part = &mut start[0..rows.len()];

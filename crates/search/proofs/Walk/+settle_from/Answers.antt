@@ -1,6 +1,6 @@
 use Rattle.std.proofs.Common.{◌≡◌, [], length, get_or, is_some, unwrap_or, option_map, option_copied, sym, refl, ◌∙◌, rules}
 use Rattle.graphs.proofs.Lowest.{turn, no_more}
-use Rattle.search.specs.Walk.{Setting, setting, LeftBy}
+use Rattle.search.specs.Walk.{Setting, asked, LeftBy}
 use Rattle.search.proofs.Going.{going_none, going_start, bay_held, going_fails, going_back, going_there, going_end}
 use Rattle.search.proofs.Narrowing.{left_next, few_left}
 use Rattle.search.proofs.Steps.{as_long}
@@ -9,12 +9,12 @@ use Rattle.search.proofs.Walk.+settle_from.Goals as goal
 
 pub returns-then-u-rows : goal.returns-then-u-rows
 returns-then-u-rows g t c =
-    let w : Setting = setting (g.A.Source.graph c.args.self.now.problem.now.arrangement.now) (g.R.Source.graph c.args.self.now.problem.now.room.now) c.args.self.now.problem.now.strict (g.F.Filter.left c.args.self.now.filter.now) in
+    let w : Setting = asked g.A.Source.graph g.R.Source.graph g.F.Filter.left c.args.self.now in
     going_none w (unwrap_or (option_copied c.args.last) []) (is_some (option_copied c.args.last)) c.args.u c.args.rows.now c.args.tries c.lowest_bays.result c.if-u-rows.true c.ranges.tries.fits c.lowest_bays.ensures
 
 pub loop-b-init : goal.loop-b-init
 loop-b-init g t c =
-    let w : Setting = setting (g.A.Source.graph c.args.self.now.problem.now.arrangement.now) (g.R.Source.graph c.args.self.now.problem.now.room.now) c.args.self.now.problem.now.strict (g.F.Filter.left c.args.self.now.filter.now) in
+    let w : Setting = asked g.A.Source.graph g.R.Source.graph g.F.Filter.left c.args.self.now in
     let lawful = g.met.F.Filter.lawful c.args.self.now.filter.now in
     let bound : c.map-bound.result ≡ option_map (λ l. get_or l.now c.args.u 0) c.args.last = search rules in
     let row : c.into_iter-b-iterator.result.rest ≡ c.offers.result = search rules in
@@ -24,14 +24,14 @@ loop-b-init g t c =
 
 pub attempt-requires-clause-held : goal.attempt-requires-clause-held
 attempt-requires-clause-held g t c =
-    let w : Setting = setting (g.A.Source.graph c.args.self.now.problem.now.arrangement.now) (g.R.Source.graph c.args.self.now.problem.now.room.now) c.args.self.now.problem.now.strict (g.F.Filter.left c.args.self.now.filter.now) in
+    let w : Setting = asked g.A.Source.graph g.R.Source.graph g.F.Filter.left c.args.self.now in
     let lawful = g.met.F.Filter.lawful c.args.self.now.filter.now in
     bay_held w (unwrap_or (option_copied c.args.last) []) (is_some (option_copied c.args.last)) c.args.u c.args.rows.now lawful c.requires.left
     c.args.tries c.loop-b.so_far c.loop-b.b-iterator.rest c.loop-b.next c.loop-b.invariant (turn c.loop-b.b-iterator c.next.new.self c.in-Some.ensures.steps)
 
 pub settle_from-requires : goal.settle_from-requires
 settle_from-requires g t c κs within =
-    let w : Setting = setting (g.A.Source.graph c.args.self.now.problem.now.arrangement.now) (g.R.Source.graph c.args.self.now.problem.now.room.now) c.args.self.now.problem.now.strict (g.F.Filter.left c.args.self.now.filter.now) in
+    let w : Setting = asked g.A.Source.graph g.R.Source.graph g.F.Filter.left c.args.self.now in
     let lawful = g.met.F.Filter.lawful c.args.self.now.filter.now in
     let same : Handed c.args.last c.args.u c.in-Some.b c.filter-same.result = search rules in
     let long : length c.args.rows.now ≡ length c.attempt.new.next = as_long w (unwrap_or (option_copied c.args.last) []) (is_some (option_copied c.args.last)) c.args.u c.in-Some.b c.args.rows.now c.attempt.new.next c.attempt.ensures.left lawful in
@@ -43,7 +43,7 @@ settle_from-requires g t c κs within =
 
 pub returns-in-Ok : goal.returns-in-Ok
 returns-in-Ok g t c =
-    let w : Setting = setting (g.A.Source.graph c.args.self.now.problem.now.arrangement.now) (g.R.Source.graph c.args.self.now.problem.now.room.now) c.args.self.now.problem.now.strict (g.F.Filter.left c.args.self.now.filter.now) in
+    let w : Setting = asked g.A.Source.graph g.R.Source.graph g.F.Filter.left c.args.self.now in
     let lawful = g.met.F.Filter.lawful c.args.self.now.filter.now in
     let same : Handed c.args.last c.args.u c.in-Some.b c.filter-same.result = search rules in
     going_there w (unwrap_or (option_copied c.args.last) []) (is_some (option_copied c.args.last)) c.args.u c.args.rows.now lawful c.requires.left
@@ -55,7 +55,7 @@ returns-in-Ok g t c =
 
 pub loop-b-preserved-in-Err : goal.loop-b-preserved-in-Err
 loop-b-preserved-in-Err g t c =
-    let w : Setting = setting (g.A.Source.graph c.args.self.now.problem.now.arrangement.now) (g.R.Source.graph c.args.self.now.problem.now.room.now) c.args.self.now.problem.now.strict (g.F.Filter.left c.args.self.now.filter.now) in
+    let w : Setting = asked g.A.Source.graph g.R.Source.graph g.F.Filter.left c.args.self.now in
     let lawful = g.met.F.Filter.lawful c.args.self.now.filter.now in
     let same : Handed c.args.last c.args.u c.in-Some.b c.filter-same.result = search rules in
     going_back w (unwrap_or (option_copied c.args.last) []) (is_some (option_copied c.args.last)) c.args.u c.args.rows.now lawful c.requires.left
@@ -67,7 +67,7 @@ loop-b-preserved-in-Err g t c =
 
 pub loop-b-preserved : goal.loop-b-preserved
 loop-b-preserved g t c =
-    let w : Setting = setting (g.A.Source.graph c.args.self.now.problem.now.arrangement.now) (g.R.Source.graph c.args.self.now.problem.now.room.now) c.args.self.now.problem.now.strict (g.F.Filter.left c.args.self.now.filter.now) in
+    let w : Setting = asked g.A.Source.graph g.R.Source.graph g.F.Filter.left c.args.self.now in
     let lawful = g.met.F.Filter.lawful c.args.self.now.filter.now in
     going_fails w (unwrap_or (option_copied c.args.last) []) (is_some (option_copied c.args.last)) c.args.u c.args.rows.now lawful c.requires.left
     c.args.tries c.loop-b.so_far c.loop-b.b-iterator.rest c.loop-b.next c.loop-b.invariant (turn c.loop-b.b-iterator c.next.new.self c.in-Some.ensures.steps)
@@ -76,7 +76,7 @@ loop-b-preserved g t c =
 
 pub returns : goal.returns
 returns g t c =
-    let w : Setting = setting (g.A.Source.graph c.args.self.now.problem.now.arrangement.now) (g.R.Source.graph c.args.self.now.problem.now.room.now) c.args.self.now.problem.now.strict (g.F.Filter.left c.args.self.now.filter.now) in
+    let w : Setting = asked g.A.Source.graph g.R.Source.graph g.F.Filter.left c.args.self.now in
     let lawful = g.met.F.Filter.lawful c.args.self.now.filter.now in
     going_end w (unwrap_or (option_copied c.args.last) []) (is_some (option_copied c.args.last)) c.args.u c.args.rows.now lawful c.requires.left
     c.args.tries c.loop-b.so_far c.loop-b.b-iterator.rest c.loop-b.next c.loop-b.invariant (no_more c.loop-b.b-iterator c.in-None.ensures.steps.0)
