@@ -1,10 +1,10 @@
 -- Which bays a row holds. Assumes nothing.
-use Rattle.std.proofs.Common.{◌≡◌, ℕ, zero, suc, ◌+◌, ◌-◌, ◌*◌, ◌/◌, ◌%◌, ◌^◌, ◌<◌, ◌≤◌, Bool, true, false, not, ◌&&◌, ◌||◌, eqb, ltb, ◌⊎◌, sym, refl, ap, ◌∙◌, subst, subst₂, inl, inr, div-one, arith, pow_pos, pow_mono, shr-shr}
+use Rattle.std.proofs.Common.{◌≡◌, ℕ, zero, suc, ◌+◌, ◌-◌, ◌*◌, ◌/◌, ◌%◌, ◌^◌, ◌<◌, ◌≤◌, true, false, not, ◌&&◌, ◌||◌, eqb, ltb, ◌⊎◌, sym, refl, ap, ◌∙◌, subst, subst₂, inl, inr, div-one, arith, pow_pos, pow_mono, shr-shr}
 use native.Mathlib.Nat.{div-div-eq-div-mul, pow-succ', div-eq_of_lt}
 use lib.Bits.{bit_and, bit_or, and_shr, and_mod, or_shr, or_mod}
 use lib.Count.{count_trailing_zeros, under}
 use Rattle.std.proofs.lemmas.Nat.{div-add-mod', mod_below}
-use Rattle.std.proofs.lemmas.Bool.{eq-eqb, ne_eqb, cases_lt, cases_Bool, both_ways, le-ltb, lt-ltb}
+use Rattle.std.proofs.lemmas.Bool.{eq-eqb, ne_eqb, cases_lt, cases_Bool, both_ways}
 use Rattle.std.proofs.lemmas.Bool.Decides.{nat_tests}
 use Rattle.graphs.specs.Rows.{bit}
 
@@ -126,21 +126,17 @@ unfolding bit
 bit_shr x k c = ap (λ (n : ℕ). eqb (n % 2) 1) (shr-shr x k c)
 
 pub bit_not : (k x c : ℕ) → x < 2 ^ k → bit ((2 ^ k - 1) - x) c ≡ (ltb c k && not (bit x c))
-bit_not zero x c h = ap (λ (n : ℕ). bit n c) (let z : (2 ^ 0 - 1) - x ≡ 0 = omega arith in z) ∙ bit_none c ∙ sym (ap (λ (t : Bool). t && not (bit x c)) (le-ltb c 0 (omega arith)))
+bit_not zero x c h = ap (λ (n : ℕ). bit n c) (let z : (2 ^ 0 - 1) - x ≡ 0 = omega arith in z) ∙ grind (arith, nat_tests, bit_none c)
 bit_not (suc k) x zero h =
     bit_zero ((2 ^ suc k - 1) - x)
     ∙ elim (digit_cases (x % 2) (omega arith)) [
-      | inl z ↦ eq-eqb (((2 ^ suc k - 1) - x) % 2) 1 (omega (arith, pow-succ' 2 k, pow_pos k))
-          ∙ sym (ap (λ (t : Bool). ltb 0 (suc k) && not t) (bit_zero x ∙ ne_eqb (x % 2) 1 (λ e. omega arith)) ∙ ap (λ (t : Bool). t && true) (lt-ltb 0 (suc k) (omega arith)))
-      | inr z ↦ ne_eqb (((2 ^ suc k - 1) - x) % 2) 1 (λ e. omega (arith, pow-succ' 2 k, pow_pos k))
-          ∙ sym (ap (λ (t : Bool). ltb 0 (suc k) && not t) (bit_zero x ∙ eq-eqb (x % 2) 1 z) ∙ ap (λ (t : Bool). t && false) (lt-ltb 0 (suc k) (omega arith)))
+      | inl z ↦ let d : ((2 ^ suc k - 1) - x) % 2 ≡ 1 = omega (arith, pow-succ' 2 k, pow_pos k) in grind (arith, nat_tests, bit_zero x)
+      | inr z ↦ let d : ((2 ^ suc k - 1) - x) % 2 ≡ 0 = omega (arith, pow-succ' 2 k, pow_pos k) in grind (arith, nat_tests, bit_zero x)
     ]
 bit_not (suc k) x (suc c) h =
     bit_suc ((2 ^ suc k - 1) - x) c
     ∙ ap (λ (n : ℕ). bit n c) (let z : ((2 ^ suc k - 1) - x) / 2 ≡ (2 ^ k - 1) - x / 2 = omega (arith, pow-succ' 2 k, pow_pos k) in z)
-    ∙ bit_not k (x / 2) c (omega (arith, pow-succ' 2 k))
-    ∙ ap (λ (t : Bool). ltb c k && not t) (sym (bit_suc x c))
-    ∙ ap (λ (t : Bool). t && not (bit x (suc c))) (let z : ltb c k ≡ ltb (suc c) (suc k) = grind (arith, nat_tests) in z)
+    ∙ grind (arith, nat_tests, bit_not k (x / 2) c (omega (arith, pow-succ' 2 k)), bit_suc x c)
 
 -- two rows that hold the same bays are one
 pub same_rows : (k x y : ℕ) → x < 2 ^ k → y < 2 ^ k → ((c : ℕ) → bit x c ≡ bit y c) → x ≡ y

@@ -1,3 +1,4 @@
+pub mod Bools
 pub mod Bits
 pub mod Rows
 pub mod JointTables

@@ -14,15 +14,8 @@ use Rattle.std.proofs.lemmas.Bool.Decides.{nat_tests}
 use Rattle.graphs.specs.Rows.{bit}
 use Rattle.graphs.specs.Nodes.{nodes_of}
 use Rattle.graphs.specs.declared.RowNodes.{RowNodes}
+use Rattle.graphs.proofs.Bools.{and_true}
 use Rattle.graphs.proofs.Bits.{digit_cases, bit_none, bit_zero, bit_suc, bit_of_and, bit_lowest, bit_past, same_rows}
-
-and_true : (t : Bool) → (t && true) ≡ t
-and_true true = refl
-and_true false = refl
-
-and_twice : (t : Bool) → (t && t) ≡ t
-and_twice true = refl
-and_twice false = refl
 
 -- no node is below the lowest
 pub below_lowest : (k x c : ℕ) → c < count_trailing_zeros k x → bit x c ≡ false
@@ -51,22 +44,16 @@ lowest_off (suc k) x l h c =
     ]
   where
     odd : x % 2 ≡ 1 → (c : ℕ) → (bit x c && bit (x - 1) c) ≡ (bit x c && not (eqb c 0))
-    odd z zero = ap (λ (t : Bool). bit x 0 && t) (bit_zero (x - 1) ∙ ne_eqb ((x - 1) % 2) 1 (λ e. omega arith))
+    odd z zero = grind (arith, nat_tests, bit_zero (x - 1))
     odd z (suc d) =
-        ap (λ (t : Bool). bit x (suc d) && t) (bit_suc (x - 1) d ∙ ap (λ (y : ℕ). bit y d) (let e : (x - 1) / 2 ≡ x / 2 = omega arith in e) ∙ sym (bit_suc x d))
-        ∙ and_twice (bit x (suc d)) ∙ sym (ap (λ (t : Bool). bit x (suc d) && not t) (ne_eqb (suc d) 0 (λ e. omega arith)) ∙ and_true (bit x (suc d)))
+        let half : (x - 1) / 2 ≡ x / 2 = omega arith in
+        grind (arith, nat_tests, bit_suc (x - 1) d, ap (λ (y : ℕ). bit y d) half, bit_suc x d)
 
     even : x % 2 ≡ 0 → ((d : ℕ) → bit (bit_and (x / 2) (x / 2 - 1)) d ≡ (bit (x / 2) d && not (eqb d (count_trailing_zeros k (x / 2))))) → (c : ℕ) → (bit x c && bit (x - 1) c) ≡ (bit x c && not (eqb c (suc (count_trailing_zeros k (x / 2)))))
-    even z ih zero =
-        let f : bit x 0 ≡ false = bit_zero x ∙ ne_eqb (x % 2) 1 (λ e. omega arith) in
-        and_left (bit x 0) (bit (x - 1) 0) f ∙ sym (and_left (bit x 0) (not (eqb 0 (suc (count_trailing_zeros k (x / 2))))) f)
+    even z ih zero = grind (arith, nat_tests, bit_zero x)
     even z ih (suc d) =
-        ap (λ (t : Bool). t && bit (x - 1) (suc d)) (bit_suc x d)
-        ∙ ap (λ (t : Bool). bit (x / 2) d && t) (bit_suc (x - 1) d ∙ ap (λ (y : ℕ). bit y d) (let e : (x - 1) / 2 ≡ x / 2 - 1 = omega arith in e))
-        ∙ sym (bit_of_and (x / 2) (x / 2 - 1) d)
-        ∙ ih d
-        ∙ ap (λ (t : Bool). t && not (eqb d (count_trailing_zeros k (x / 2)))) (sym (bit_suc x d))
-        ∙ ap (λ (t : Bool). bit x (suc d) && not t) (let e : eqb d (count_trailing_zeros k (x / 2)) ≡ eqb (suc d) (suc (count_trailing_zeros k (x / 2))) = grind (arith, nat_tests) in e)
+        let half : (x - 1) / 2 ≡ x / 2 - 1 = omega arith in
+        grind (arith, nat_tests, bit_suc x d, bit_suc (x - 1) d, ap (λ (y : ℕ). bit y d) half, bit_of_and (x / 2) (x / 2 - 1) d, ih d)
 
 -- ---- those of the n numbers from a on that pass a test
 

@@ -1,5 +1,5 @@
 -- Rows given by a test, and rows that a loop over the nodes builds. Assumes nothing.
-use Rattle.std.proofs.Common.{◌≡◌, ℕ, zero, suc, ◌+◌, ◌-◌, ◌*◌, ◌/◌, ◌%◌, ◌^◌, ◌<◌, ◌≤◌, Bool, true, false, cond, not, ◌&&◌, ◌||◌, eqb, ltb, sym, refl, ap, ◌∙◌, inl, inr, add-zero, arith, pow_mono}
+use Rattle.std.proofs.Common.{◌≡◌, ℕ, zero, suc, ◌+◌, ◌-◌, ◌*◌, ◌/◌, ◌%◌, ◌^◌, ◌<◌, ◌≤◌, Bool, true, false, cond, not, ◌&&◌, ◌||◌, eqb, ltb, sym, ap, ◌∙◌, inl, inr, add-zero, arith, pow_mono}
 use native.Mathlib.Nat.{pow-succ'}
 use lib.Bits.{bit_and, bit_or, and_le_l}
 use lib.Pow.{shr_le}
@@ -59,15 +59,7 @@ all_but n o p l h e =
     (λ c. bit_of_and (18446744073709551615 / 2 ^ (64 - n)) (18446744073709551615 - o) c
     ∙ ap (λ (t : Bool). t && bit (18446744073709551615 - o) c) (bit_all n c l)
     ∙ ap (λ (t : Bool). ltb c n && t) (bit_not 64 o c h)
-    ∙ last c)
-  where
-    both : (s t b v : Bool) → b ≡ not v → (s ≡ true → t ≡ true) → (s && (t && not b)) ≡ (s && v)
-    both false t b v e f = refl
-    both true t b true e f = ap (λ (x : Bool). x && not b) (f refl) ∙ ap not e
-    both true t b false e f = ap (λ (x : Bool). x && not b) (f refl) ∙ ap not e
-
-    last : (c : ℕ) → (ltb c n && (ltb c 64 && not (bit o c))) ≡ (ltb c n && p c)
-    last c = both (ltb c n) (ltb c 64) (bit o c) (p c) (e c) (λ z. grind (arith, nat_tests))
+    ∙ grind (arith, nat_tests, e c))
 
 pub bit_row_of : (n : ℕ) (p : ℕ → Bool) (c : ℕ) → bit (row_of n p) c ≡ (ltb c n && p c)
 bit_row_of n p c = bit_row_from 0 p n c ∙ ap (λ (k : ℕ). ltb c n && p k) (let z : 0 + c ≡ c = omega arith in z)
@@ -87,31 +79,21 @@ Upto b p x = (k : ℕ) → bit x k ≡ (ltb k b && p k)
 pub upto_none : (p : ℕ → Bool) → Upto 0 p 0
 upto_none p k = bit_none k ∙ sym (ap (λ (t : Bool). t && p k) (le-ltb k 0 (omega arith)))
 
+-- a row and one node more
+pub put_on : (x b k : ℕ) → b < 64 → bit (bit_or x ((1 * 2 ^ b) % 18446744073709551616)) k ≡ (bit x k || eqb b k)
+put_on x b k l = bit_of_or x ((1 * 2 ^ b) % 18446744073709551616) k ∙ ap (λ (t : Bool). bit x k || t) (ap (λ (y : ℕ). bit y k) (one_shl b 64 l) ∙ bit_one b k)
+
 pub upto_set : (p : ℕ → Bool) (x b : ℕ) → b < 64 → Upto b p x → p b ≡ true → Upto (b + 1) p (bit_or x ((1 * 2 ^ b) % 18446744073709551616))
 upto_set p x b l h e k =
-    bit_of_or x ((1 * 2 ^ b) % 18446744073709551616) k
-    ∙ ap (λ (t : Bool). bit x k || t) (ap (λ (y : ℕ). bit y k) (one_shl b 64 l) ∙ bit_one b k)
+    put_on x b k l
     ∙ elim (cases_eq b k) [
-      | inl z ↦ ap (λ (t : Bool). bit x k || t) (eq-eqb b k z) ∙ or_true (bit x k) ∙ sym (ap (λ (t : Bool). t && p k) (lt-ltb k (b + 1) (omega arith)) ∙ ap p (sym z) ∙ e)
-      | inr ne ↦ ap (λ (t : Bool). bit x k || t) (ne_eqb b k ne) ∙ or_false (bit x k) ∙ h k ∙ ap (λ (t : Bool). t && p k) (let z : ltb k b ≡ ltb k (b + 1) = grind (arith, nat_tests) in z)
+      | inl z ↦ let f : p k ≡ true = ap p (sym z) ∙ e in grind (arith, nat_tests, h k)
+      | inr ne ↦ grind (arith, nat_tests, h k)
     ]
-  where
-    or_true : (t : Bool) → (t || true) ≡ true
-    or_true true = refl
-    or_true false = refl
-
-    or_false : (t : Bool) → (t || false) ≡ t
-    or_false true = refl
-    or_false false = refl
 
 pub upto_pass : (p : ℕ → Bool) (x b : ℕ) → Upto b p x → p b ≡ false → Upto (b + 1) p x
 upto_pass p x b h e k =
-    h k
-    ∙ elim (cases_eq b k) [
-      | inl z ↦ let f : p k ≡ false = ap p (sym z) ∙ e in ap (λ (t : Bool). ltb k b && t) f ∙ and_none (ltb k b) ∙ sym (ap (λ (t : Bool). ltb k (b + 1) && t) f ∙ and_none (ltb k (b + 1)))
-      | inr ne ↦ ap (λ (t : Bool). t && p k) (let z : ltb k b ≡ ltb k (b + 1) = grind (arith, nat_tests) in z)
+    elim (cases_eq b k) [
+      | inl z ↦ let f : p k ≡ false = ap p (sym z) ∙ e in grind (arith, nat_tests, h k)
+      | inr ne ↦ grind (arith, nat_tests, h k)
     ]
-  where
-    and_none : (t : Bool) → (t && false) ≡ false
-    and_none true = refl
-    and_none false = refl

@@ -1,14 +1,12 @@
 -- The graph of a wall, and the row of one of its nodes by its four neighbours. Assumes nothing.
-use Rattle.std.proofs.Common.{◌≡◌, ℕ, ◌+◌, ◌-◌, ◌*◌, ◌/◌, ◌%◌, ◌^◌, ◌<◌, ◌≤◌, Bool, true, false, ◌&&◌, ◌||◌, eqb, ltb, leb, sym, refl, ap, ◌∙◌, inl, inr, mul_comm, add-mul, mul-pos, le-mul_of_pos_right, arith}
+use Rattle.std.proofs.Common.{◌≡◌, ℕ, ◌+◌, ◌-◌, ◌*◌, ◌/◌, ◌%◌, ◌<◌, ◌≤◌, Bool, false, ◌&&◌, ◌||◌, eqb, ltb, leb, sym, ap, ◌∙◌, inl, inr, mul_comm, add-mul, mul-pos, le-mul_of_pos_right, arith}
 use lib.Arith.{digits_div, digits_lt}
-use lib.Bits.{bit_or}
-use Rattle.std.proofs.lemmas.Nat.{one_shl, div-add-mod', div_below, mod_below}
-use Rattle.std.proofs.lemmas.Bool.{ltb-true, leb-true, eqb-true, lt-ltb, le-leb, eq-eqb, cases_lt, and_parts, and_from, or_cases, or_left, or_right}
+use Rattle.std.proofs.lemmas.Nat.{div-add-mod', div_below, mod_below}
+use Rattle.std.proofs.lemmas.Bool.{cases_lt, cases_eq}
 use Rattle.std.proofs.lemmas.Bool.Decides.{nat_tests}
 use Rattle.graphs.specs.Rows.{bit, row_of}
 use Rattle.graphs.specs.Graph.{Sound, Symmetric}
 use Rattle.graphs.specs.WallGrid.{wall_joined, wall_graph}
-use Rattle.graphs.proofs.Bits.{bit_of_or, bit_one}
 use Rattle.graphs.proofs.Rows.{row_is}
 
 pub le_wall : (w h : ℕ) → 1 ≤ h → w ≤ w * h
@@ -38,22 +36,6 @@ wall_sound w h p q r = record {
 pub wall_symmetric : (w h : ℕ) → Symmetric (wall_graph w h)
 wall_symmetric w h = record { both = wall_sym w (w * h) }
 
-bool_ext : (s t : Bool) → (s ≡ true → t ≡ true) → (t ≡ true → s ≡ true) → s ≡ t
-bool_ext true t f g = sym (f refl)
-bool_ext false true f g = g refl
-bool_ext false false f g = refl
-
--- one bit more
-pub put_on : (x b k : ℕ) → b < 64 → bit (bit_or x ((1 * 2 ^ b) % 18446744073709551616)) k ≡ (bit x k || (true && eqb b k))
-put_on x b k l = bit_of_or x ((1 * 2 ^ b) % 18446744073709551616) k ∙ ap (λ (t : Bool). bit x k || t) (ap (λ (y : ℕ). bit y k) (one_shl b 64 l) ∙ bit_one b k)
-
-pub put_off : (x b k : ℕ) → bit x k ≡ (bit x k || (false && eqb b k))
-put_off x b k = last (bit x k)
-  where
-    last : (t : Bool) → t ≡ (t || false)
-    last true = refl
-    last false = refl
-
 module _ (w h a : ℕ) (p : 1 ≤ w) (la : a < w * h) where
   abbrev n : ℕ
   n = w * h
@@ -80,85 +62,27 @@ module _ (w h a : ℕ) (p : 1 ≤ w) (la : a < w * h) where
   abbrev pub near : ℕ → Bool
   near k = ((((false || (ltb 0 (a % w) && eqb (a - 1) k)) || (ltb (a % w + 1) w && eqb (a + 1) k)) || (leb w a && eqb (a - w) k)) || (ltb (a + w) n && eqb (a + w) k))
 
-  abbrev across : ℕ → Bool
-  across k = eqb (a / w) (k / w) && (eqb (a + 1) k || eqb (k + 1) a)
-
-  abbrev upward : ℕ → Bool
-  upward k = eqb (a + w) k || eqb (k + w) a
-
-  whole : (k : ℕ) → k < n → (across k || upward k) ≡ true → (ltb k n && wall_joined w n a k) ≡ true
-  whole k l e = and_from (ltb k n) (wall_joined w n a k) (lt-ltb k n l) (and_from (ltb a n && ltb k n) (across k || upward k) (and_from (ltb a n) (ltb k n) (lt-ltb a n la) (lt-ltb k n l)) e)
-
-  there : (k : ℕ) → near k ≡ true → (ltb k n && wall_joined w n a k) ≡ true
-  there k t =
-      elim (or_cases (((false || (ltb 0 (a % w) && eqb (a - 1) k)) || (ltb (a % w + 1) w && eqb (a + 1) k)) || (leb w a && eqb (a - w) k)) (ltb (a + w) n && eqb (a + w) k) t) [
-        | inr d ↦
-            let q = and_parts (ltb (a + w) n) (eqb (a + w) k) d in
-            let e = eqb-true (a + w) k q.1 in
-            let l = ltb-true (a + w) n q.0 in
-            whole k (omega arith) (or_right (across k) (upward k) (or_left (eqb (a + w) k) (eqb (k + w) a) q.1))
-        | inl t2 ↦ elim (or_cases ((false || (ltb 0 (a % w) && eqb (a - 1) k)) || (ltb (a % w + 1) w && eqb (a + 1) k)) (leb w a && eqb (a - w) k) t2) [
-          | inr d ↦
-              let q = and_parts (leb w a) (eqb (a - w) k) d in
-              let e = eqb-true (a - w) k q.1 in
-              let l = leb-true w a q.0 in
-              whole k (omega arith) (or_right (across k) (upward k) (or_right (eqb (a + w) k) (eqb (k + w) a) (eq-eqb (k + w) a (omega arith))))
-          | inl t3 ↦ elim (or_cases (false || (ltb 0 (a % w) && eqb (a - 1) k)) (ltb (a % w + 1) w && eqb (a + 1) k) t3) [
-            | inr d ↦
-                let q = and_parts (ltb (a % w + 1) w) (eqb (a + 1) k) d in
-                let e = eqb-true (a + 1) k q.1 in
-                let l = ltb-true (a % w + 1) w q.0 in
-                let b = right_below l in
-                whole k (omega arith) (or_left (across k) (upward k) (and_from (eqb (a / w) (k / w)) (eqb (a + 1) k || eqb (k + 1) a)
-                (eq-eqb (a / w) (k / w) (sym (ap (λ (y : ℕ). y / w) (sym e) ∙ right_level l))) (or_left (eqb (a + 1) k) (eqb (k + 1) a) q.1)))
-            | inl t4 ↦
-                let q = and_parts (ltb 0 (a % w)) (eqb (a - 1) k) t4 in
-                let e = eqb-true (a - 1) k q.1 in
-                let l = ltb-true 0 (a % w) q.0 in
-                let k1 : k + 1 ≡ a = omega (arith, parts) in
-                whole k (omega arith) (or_left (across k) (upward k) (and_from (eqb (a / w) (k / w)) (eqb (a + 1) k || eqb (k + 1) a)
-                (eq-eqb (a / w) (k / w) (sym (left_level k l k1))) (or_right (eqb (a + 1) k) (eqb (k + 1) a) (eq-eqb (k + 1) a k1))))
-          ]
-        ]
-      ]
-
-  back : (k : ℕ) → (ltb k n && wall_joined w n a k) ≡ true → near k ≡ true
-  back k t =
-      let q = and_parts (ltb k n) (wall_joined w n a k) t in
-      let l = ltb-true k n q.0 in
-      let A : Bool = ltb 0 (a % w) && eqb (a - 1) k in
-      let B : Bool = ltb (a % w + 1) w && eqb (a + 1) k in
-      let C : Bool = leb w a && eqb (a - w) k in
-      let D : Bool = ltb (a + w) n && eqb (a + w) k in
+  near_is : (k : ℕ) → near k ≡ (ltb k n && wall_joined w n a k)
+  near_is k =
       let m = mod_below a w p in
-      elim (or_cases (across k) (upward k) (and_parts (ltb a n && ltb k n) (across k || upward k) q.1).1) [
-        | inl x ↦
-            let y = and_parts (eqb (a / w) (k / w)) (eqb (a + 1) k || eqb (k + 1) a) x in
-            let level = eqb-true (a / w) (k / w) y.0 in
-            elim (or_cases (eqb (a + 1) k) (eqb (k + 1) a) y.1) [
-              | inl z ↦
-                  let e = eqb-true (a + 1) k z in
-                  let r : a % w + 1 < w = elim (cases_lt (a % w + 1) w) [
-                    | inl o ↦ o
-                    | inr o ↦ absurd (omega (arith, right_next (omega arith), ap (λ (y : ℕ). y / w) e))
-                  ] in
-                  or_left (((false || A) || B) || C) D (or_left ((false || A) || B) C (or_right (false || A) B (and_from (ltb (a % w + 1) w) (eqb (a + 1) k) (lt-ltb (a % w + 1) w r) z)))
-              | inr z ↦
-                  let e = eqb-true (k + 1) a z in
-                  let r : 0 < a % w = elim (cases_lt 0 (a % w)) [
-                    | inl o ↦ o
-                    | inr o ↦ absurd (omega (arith, parts, div-add-mod' k w, ap (λ (y : ℕ). y * w) level))
-                  ] in
-                  or_left (((false || A) || B) || C) D (or_left ((false || A) || B) C (or_left (false || A) B (and_from (ltb 0 (a % w)) (eqb (a - 1) k) (lt-ltb 0 (a % w) r) (eq-eqb (a - 1) k (omega arith)))))
+      elim (cases_eq (a + 1) k) [
+        | inl z ↦
+            let f : k / w ≡ (a + 1) / w = ap (λ (y : ℕ). y / w) (sym z) in
+            elim (cases_lt (a % w + 1) w) [
+              | inl l ↦ let b = right_below l in let d = right_level l in grind (arith, nat_tests)
+              | inr g ↦ let d = right_next (omega arith) in grind (arith, nat_tests)
             ]
-        | inr x ↦ elim (or_cases (eqb (a + w) k) (eqb (k + w) a) x) [
-          | inl z ↦ let e = eqb-true (a + w) k z in
-              or_right (((false || A) || B) || C) D (and_from (ltb (a + w) n) (eqb (a + w) k) (lt-ltb (a + w) n (omega arith)) z)
-          | inr z ↦ let e = eqb-true (k + w) a z in
-              or_left (((false || A) || B) || C) D (or_right ((false || A) || B) C (and_from (leb w a) (eqb (a - w) k) (le-leb w a (omega arith)) (eq-eqb (a - w) k (omega arith))))
+        | inr nz ↦ elim (cases_eq (k + 1) a) [
+          | inl z ↦ elim (cases_lt 0 (a % w)) [
+            | inl l ↦ let d = left_level k l z in grind (arith, nat_tests)
+            | inr g ↦
+                let d : k / w ≡ a / w → ⊥ = λ e. omega (arith, parts, div-add-mod' k w, ap (λ (y : ℕ). y * w) e) in
+                grind (arith, nat_tests)
+          ]
+          | inr nk ↦ grind (arith, nat_tests)
         ]
       ]
 
   -- a number that holds the four neighbours is the row
   pub wall_row : (x : ℕ) → ((k : ℕ) → bit x k ≡ near k) → x ≡ row_of n (wall_joined w n a)
-  wall_row x e = row_is n x (wall_joined w n a) (λ k. e k ∙ bool_ext (near k) (ltb k n && wall_joined w n a k) (there k) (back k))
+  wall_row x e = row_is n x (wall_joined w n a) (λ k. e k ∙ near_is k)

@@ -1,17 +1,13 @@
 -- A table is lawful exactly where each of its set bits is, and a column is a row. Assumes nothing.
-use Rattle.std.proofs.Common.{◌≡◌, ℕ, zero, suc, ◌<◌, ◌≤◌, Bool, true, false, List, [], ◌∷◌, length, get_or, sym, refl, ap, ◌∙◌, inl, inr, arith}
+use Rattle.std.proofs.Common.{◌≡◌, ℕ, zero, suc, ◌<◌, ◌≤◌, Bool, false, List, [], ◌∷◌, length, get_or, sym, refl, ap, ◌∙◌, inl, inr, arith}
 use mathlib.Core.Path.{fun_ext}
 use Rattle.std.proofs.lemmas.Bool.{both_ways, cases_Bool}
 use Rattle.graphs.specs.Rows.{bit, row_of}
 use Rattle.graphs.specs.JointTable.{RowLawful, TableLawful}
+use Rattle.graphs.proofs.Bools.{bool_ext}
 use Rattle.graphs.proofs.Bits.{bit_none, bit_below, bits_below}
 use Rattle.graphs.proofs.JointTables.{table_irr, table_sym, table_row}
 use Rattle.sources.specs.Pairs.{PairsLawful}
-
-bool_ext : (s t : Bool) → (s ≡ true → t ≡ true) → (t ≡ true → s ≡ true) → s ≡ t
-bool_ext true t f g = sym (f refl)
-bool_ext false true f g = g refl
-bool_ext false false f g = refl
 
 pub table_lawful : (rows : List ℕ) (n : ℕ) → length rows ≡ n → 1 ≤ n → n ≤ 64 → ((a : ℕ) → a < n → PairsLawful rows a) → TableLawful rows n
 table_lawful rows n s l f p = record {

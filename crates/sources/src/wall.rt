@@ -31,6 +31,7 @@ impl Extent {
     }
 
     // The nodes that `a` is joined to.
+    #[tactic(auto, using(crate::proofs::Grids::narrow))]
     fn neighbours(&self, a: usize) -> u64
         ensures { result ≡ row_of (self.now.columns * self.now.levels) (wall_joined self.now.columns (self.now.columns * self.now.levels) a) }
     {
@@ -101,6 +102,7 @@ impl Source for WallGrid {
         self.extent.count()
     }
 
+    #[tactic(auto, using(crate::proofs::Grids::narrow))]
     fn joined(&self, a: usize, b: usize) -> bool {
         let count = self.extent.count();
         let columns = self.extent.columns;

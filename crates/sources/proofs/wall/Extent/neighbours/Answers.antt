@@ -3,7 +3,7 @@ use Rattle.std.proofs.lemmas.Bool.{ltb-true}
 use Rattle.graphs.specs.Rows.{bit}
 use Rattle.graphs.proofs.Bits.{bit_none}
 use Rattle.sources.proofs.Grids.{past_count}
-use Rattle.graphs.proofs.Walls.{le_wall, right_below, wall_row}
+use Rattle.graphs.proofs.Walls.{right_below, wall_row}
 use Rattle.sources.proofs.wall.Extent.neighbours.Goals as goal
 
 pub returns-then-a-count : goal.returns-then-a-count
@@ -13,12 +13,6 @@ pub with_node-level-requires : goal.with_node-level-requires
 with_node-level-requires c = λ e.
     let l = right_below c.args.self.now.columns c.args.self.now.levels c.args.a c.args.self.now.wide (omega arith) (ltb-true (c.args.a % c.args.self.now.columns + 1) c.args.self.now.columns e) in
     omega (arith, c.args.self.now.few)
-
-pub overflow_add-a-2 : goal.overflow_add-a-2
-overflow_add-a-2 c = omega (arith, le_wall c.args.self.now.columns c.args.self.now.levels c.args.self.now.high, c.args.self.now.few)
-
-pub overflow_add-a-3 : goal.overflow_add-a-3
-overflow_add-a-3 c = omega (arith, le_wall c.args.self.now.columns c.args.self.now.levels c.args.self.now.high, c.args.self.now.few)
 
 pub returns : goal.returns
 returns c =
