@@ -1,7 +1,7 @@
 -- The lines of a text. Assumes nothing.
 use Rattle.std.specs.Prelude.{◌≡◌, ℕ, ◌+◌, cond, List, [], ◌∷◌, ◌++◌, length, take, codes, decimal, ◌==◌, nat_lt}
 use Rattle.refusals.specs.declared.Told.{Told}
-use Rattle.refusals.specs.Numbers.{number_of}
+use Rattle.refusals.specs.Numbers.{number_of, layer_of}
 use Rattle.text.specs.Lay.{lay}
 
 -- numbers in decimal, each with a blank before it
@@ -31,7 +31,7 @@ listing_text ws = lines (take 20 ws) ++ cond (nat_lt 20 (length ws)) (codes "mor
 abbrev pub refusal_text : Told → List ℕ
 refusal_text t =
     codes "refused "
-    ++ (decimal (number_of t.reason) ++ (32 ∷ (decimal t.layer ++ (32 ∷ (decimal t.place ++ (10 ∷ []))))))
+    ++ (decimal (number_of t.reason) ++ (32 ∷ (decimal (layer_of t.layer) ++ (32 ∷ (decimal t.place ++ (10 ∷ []))))))
 
 -- bytes were written from the place `at` on, and the place behind them is answered
 pub record Wrote (bytes : List ℕ) (at : ℕ) (out out' : List ℕ) (r : ℕ) : Type 0 where

@@ -6,7 +6,7 @@ use crate::list::write_listing;
 use crate::plan::fitted_plan;
 use crate::put::write_refusal;
 use jobs::read_job;
-use refusals::Reason;
+use refusals::{Reason, Told};
 
 // What a job call answers: 0 and the length of the text, or the number of the refusal and no text.
 #[derive(Clone, Copy)]
@@ -28,7 +28,7 @@ pub fn planbench_job(input: &[u8], output: &mut [u8]) -> JobAnswer
 {
     if output.len() < ROOM {
         return JobAnswer {
-            declined: u32::from(Reason::NoRoom.number()),
+            declined: u32::from(u8::from(Reason::NoRoom)),
             written: 0,
         };
     }
@@ -38,7 +38,7 @@ pub fn planbench_job(input: &[u8], output: &mut [u8]) -> JobAnswer
             let plan = fitted_plan(&job, &input[plan_at..]);
             write_listing(output, plan, &job)
         }
-        Err(fault) => write_refusal(output, fault.told()),
+        Err(fault) => write_refusal(output, Told::from(fault)),
     };
     JobAnswer {
         declined: 0,

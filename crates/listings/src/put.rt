@@ -61,9 +61,9 @@ pub(crate) fn write_refusal(out: &mut [u8], told: Told) -> usize
     ensures wrote { Wrote (refusal_text told) 0 out.old out.new result }
 {
     let word = write_bytes(out, 0, b"refused ");
-    let number = write_number(out, word, usize::from(told.reason.number()));
+    let number = write_number(out, word, usize::from(u8::from(told.reason)));
     let gap = write_bytes(out, number, b" ");
-    let layer = write_number(out, gap, usize::from(told.layer));
+    let layer = write_number(out, gap, usize::from(u8::from(told.layer)));
     let gap = write_bytes(out, layer, b" ");
     let place = write_number(out, gap, told.place);
     write_bytes(out, place, b"\n")
