@@ -3,7 +3,8 @@
 
 #[cfg(test)]
 mod tests {
-    use jobs::{Edition, Job, JobFault, Mode, read_job};
+    use jobs::{Edition, Mode, Unknown, read_job};
+    use refusals::Told;
     use std::test::Fail;
 
     // Two joined units, a wall unit and a hob, and three bays in a line; edition 2, open use, nothing struck. One byte more stands
@@ -17,15 +18,10 @@ mod tests {
             \x02\x02\x03\0\0\0\0\0\0\0\0\0"
     }
 
-    // The number, the layer and the place that reading tells.
-    fn told(answer: Result<Job, JobFault>) -> Option<(u8, u8, usize)> {
-        match answer {
-            Ok(_) => None,
-            Err(fault) => {
-                let told = fault.told();
-                Some((told.reason.number(), told.layer, told.place))
-            }
-        }
+    // The number, the layer and the place that an answer tells where it is a fault.
+    fn told<T: Drop, F: Into<Told>>(answer: Result<T, F>) -> Option<(u8, u8, usize)> {
+        let told: Told = answer.err()?.into();
+        Some((u8::from(told.reason), u8::from(told.layer), told.place))
     }
 
     #[test]
@@ -40,6 +36,14 @@ mod tests {
         assert_eq!(rt; job.heights()[1], 800);
         assert_eq!(rt; job.plan_at, 71);
         Ok(())
+    }
+
+    #[test]
+    fn numbers_of_the_head(rt: HostRuntime) {
+        assert_eq!(rt; Mode::try_from(1).ok(), Some(Mode::Strict));
+        assert_eq!(rt; Mode::try_from(2).err(), Some(Unknown));
+        assert_eq!(rt; Edition::try_from(1).ok(), Some(Edition::One));
+        assert_eq!(rt; Edition::try_from(0).err(), Some(Unknown));
     }
 
     // One byte of the worked job changed: its place, the byte, and what is told.

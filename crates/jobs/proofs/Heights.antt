@@ -88,9 +88,6 @@ pub record Filled (pairs : List (List ℕ)) (k : ℕ) (array : List ℕ) : Type 
   pub long : length array ≡ 64
   pub front : take k array ≡ map pair_word (take k pairs)
 
-pub filled_none : (pairs : List (List ℕ)) → Filled pairs 0 (replicate 64 0)
-filled_none pairs = record { long = refl; front = refl }
-
 pub filled_more : (pairs : List (List ℕ)) (k x : ℕ) (array : List ℕ) → Filled pairs k array → k < length pairs → k < 64 → x ≡ pair_word (get_or pairs k []) → Filled pairs (k + 1) (set array k x)
 filled_more pairs k x array g h l e =
     record {

@@ -46,9 +46,6 @@ module _ {X E : Type 0} (read : Reader X E) (input : List ℕ) (at : ℕ) where
     turned_done h = ap (λ r. and_then r (λ p. Ok (tell p.0, p.1))) h
 
 module _ {E : Type 0} (n : ℕ) (ended : ℕ → E) (input : List ℕ) (at : ℕ) where
-  pub bytes_fail : length input < at + n → at ≤ length input → some_bytes n ended input at ≡ Err (ended (length input))
-  bytes_fail h l = cond-true (ltb (length (drop at input)) n) _ _ (lt-ltb (length (drop at input)) n (omega (arith, length-drop at input)))
-
   pub bytes_done : at + n ≤ length input → some_bytes n ended input at ≡ Ok (take n (drop at input), at + n)
   bytes_done h = cond-false (ltb (length (drop at input)) n) _ _ (le-ltb (length (drop at input)) n (omega (arith, length-drop at input)))
 

@@ -3,29 +3,15 @@
 
 #[cfg(test)]
 mod tests {
+    use refusals::{Reason, Told};
     use saved::{read_plan, save_plan};
     use std::test::Fail;
     use tables::{Table, read_table, write_table};
 
-    // The number, the layer and the place that reading a table from the place `at` on tells.
-    fn table_refusal(input: &[u8], at: usize) -> Option<(u8, u8, usize)> {
-        match read_table(input, at) {
-            Ok(_) => None,
-            Err(fault) => {
-                let told = fault.told();
-                Some((told.reason.number(), told.layer, told.place))
-            }
-        }
-    }
-
-    fn plan_refusal(input: &[u8], at: usize) -> Option<(u8, u8, usize)> {
-        match read_plan(input, at) {
-            Ok(_) => None,
-            Err(fault) => {
-                let told = fault.told();
-                Some((told.reason.number(), told.layer, told.place))
-            }
-        }
+    // The number, the layer and the place that an answer tells where it is a fault.
+    fn told<T: Drop, F: Into<Told>>(answer: Result<T, F>) -> Option<(u8, u8, usize)> {
+        let told: Told = answer.err()?.into();
+        Some((u8::from(told.reason), u8::from(told.layer), told.place))
     }
 
     // A table of 64 rows, all stored, whose last row is written with one byte all over.
@@ -33,70 +19,72 @@ mod tests {
         let mut bytes = [1; 522];
         bytes[0] = 64;
         bytes[1] = columns;
-        for k in 2..10 {
-            bytes[k] = 255;
-        }
-        for k in 514..522 {
-            bytes[k] = last;
-        }
+        bytes[2..10].fill(255);
+        bytes[514..522].fill(last);
         bytes
     }
 
     #[test]
     fn table_counts_and_map(rt: HostRuntime) {
-        assert_eq!(rt; table_refusal(&[], 0), Some((11, 1, 0)));
-        assert_eq!(rt; table_refusal(&[65], 0), Some((13, 1, 0)));
-        assert_eq!(rt; table_refusal(&[64], 0), Some((11, 1, 1)));
-        assert_eq!(rt; table_refusal(&[64, 65], 0), Some((13, 1, 1)));
-        assert_eq!(rt; table_refusal(&[0, 0, 1], 0), Some((11, 1, 3)));
+        assert_eq!(rt; told(read_table(&[], 0)), Some((11, 1, 0)));
+        assert_eq!(rt; told(read_table(&[65], 0)), Some((13, 1, 0)));
+        assert_eq!(rt; told(read_table(&[64], 0)), Some((11, 1, 1)));
+        assert_eq!(rt; told(read_table(&[64, 65], 0)), Some((13, 1, 1)));
+        assert_eq!(rt; told(read_table(&[0, 0, 1], 0)), Some((11, 1, 3)));
         assert_eq!(rt;
-            table_refusal(&[0, 0, 1, 0, 0, 0, 0, 0, 0, 0], 0),
+            told(read_table(&[0, 0, 1, 0, 0, 0, 0, 0, 0, 0], 0)),
             Some((14, 1, 2))
         );
         assert_eq!(rt;
-            table_refusal(&[63, 64, 1, 0, 0, 0, 0, 0, 0, 128], 0),
+            told(read_table(&[63, 64, 1, 0, 0, 0, 0, 0, 0, 128], 0)),
             Some((14, 1, 9))
         );
-        assert_eq!(rt; table_refusal(&[9, 9, 7, 64], 2), Some((11, 1, 4)));
-        assert_eq!(rt; table_refusal(&[9, 9, 7, 65], 3), Some((13, 1, 3)));
-        assert_eq!(rt; table_refusal(&[9, 9], 7), Some((11, 1, 2)));
+        assert_eq!(rt; told(read_table(&[9, 9, 7, 64], 2)), Some((11, 1, 4)));
+        assert_eq!(rt; told(read_table(&[9, 9, 7, 65], 3)), Some((13, 1, 3)));
+        assert_eq!(rt; told(read_table(&[9, 9], 7)), Some((11, 1, 2)));
     }
 
     #[test]
     fn table_rows(rt: HostRuntime) {
         let zero = [1, 1, 1, 0, 0, 0, 0, 0, 0, 0, 0, 0, 0, 0, 0, 0, 0, 0];
-        assert_eq!(rt; table_refusal(&zero, 0), Some((15, 1, 10)));
+        assert_eq!(rt; told(read_table(&zero, 0)), Some((15, 1, 10)));
         let past = [1, 0, 1, 0, 0, 0, 0, 0, 0, 0, 1, 0, 0, 0, 0, 0, 0, 0];
-        assert_eq!(rt; table_refusal(&past, 0), Some((16, 1, 10)));
-        assert_eq!(rt; table_refusal(&full(64, 1), 0), None);
-        assert_eq!(rt; table_refusal(&full(64, 1)[0..521], 0), Some((11, 1, 521)));
-        assert_eq!(rt; table_refusal(&full(63, 128), 0), Some((16, 1, 521)));
-        assert_eq!(rt; table_refusal(&full(63, 0), 0), Some((15, 1, 514)));
+        assert_eq!(rt; told(read_table(&past, 0)), Some((16, 1, 10)));
+        assert_eq!(rt; told(read_table(&full(64, 1), 0)), None);
+        assert_eq!(rt;
+            told(read_table(&full(64, 1)[0..521], 0)),
+            Some((11, 1, 521))
+        );
+        assert_eq!(rt; told(read_table(&full(63, 128), 0)), Some((16, 1, 521)));
+        assert_eq!(rt; told(read_table(&full(63, 0), 0)), Some((15, 1, 514)));
     }
 
     #[test]
     fn plans(rt: HostRuntime) {
-        assert_eq!(rt; plan_refusal(&[], 0), Some((11, 2, 0)));
-        assert_eq!(rt; plan_refusal(&[3], 0), Some((12, 2, 0)));
-        assert_eq!(rt; plan_refusal(&[2], 0), Some((11, 1, 1)));
-        assert_eq!(rt; plan_refusal(&[2, 65], 0), Some((13, 1, 1)));
+        assert_eq!(rt; told(read_plan(&[], 0)), Some((11, 2, 0)));
+        assert_eq!(rt; told(read_plan(&[3], 0)), Some((12, 2, 0)));
+        assert_eq!(rt; told(read_plan(&[2], 0)), Some((11, 1, 1)));
+        assert_eq!(rt; told(read_plan(&[2, 65], 0)), Some((13, 1, 1)));
         assert_eq!(rt;
-            plan_refusal(&[2, 0, 1, 0, 0, 0, 0, 0, 0, 0, 0, 9], 0),
+            told(read_plan(&[2, 0, 1, 0, 0, 0, 0, 0, 0, 0, 0, 9], 0)),
             Some((1, 2, 1))
         );
         assert_eq!(rt;
-            plan_refusal(&[2, 25, 1, 0, 0, 0, 0, 0, 0, 0, 0], 0),
+            told(read_plan(&[2, 25, 1, 0, 0, 0, 0, 0, 0, 0, 0], 0)),
             Some((1, 2, 1))
         );
         assert_eq!(rt;
-            plan_refusal(&[7, 2, 1, 0, 0, 0, 0, 0, 0, 0, 0, 0], 1),
+            told(read_plan(&[7, 2, 1, 0, 0, 0, 0, 0, 0, 0, 0, 0], 1)),
             Some((1, 2, 2))
         );
         assert_eq!(rt;
-            plan_refusal(&[2, 1, 1, 0, 0, 0, 0, 0, 0, 0, 0, 9], 0),
+            told(read_plan(&[2, 1, 1, 0, 0, 0, 0, 0, 0, 0, 0, 9], 0)),
             Some((17, 2, 11))
         );
-        assert_eq!(rt; plan_refusal(&[2, 1, 1, 0, 0, 0, 0, 0, 0, 0, 0], 0), None);
+        assert_eq!(rt;
+            told(read_plan(&[2, 1, 1, 0, 0, 0, 0, 0, 0, 0, 0], 0)),
+            None
+        );
     }
 
     #[test]
@@ -105,6 +93,8 @@ mod tests {
         let mut out = [7; 40];
         assert_eq!(rt; write_table(&struck, &mut out[0..25]).ok(), None);
         assert_eq!(rt; out[0], 7);
+        let short = write_table(&struck, &mut out[0..25]).err();
+        assert_eq!(rt; short.map(Reason::from), Some(Reason::NoRoom));
         assert_eq!(rt; write_table(&struck, &mut out).ok(), Some(26));
         assert_eq!(rt; out[26], 7);
         let (back, next) = read_table(&out, 0)?;

@@ -1,17 +1,17 @@
 -- Reading a table, step by step: the loop over the rows, the map, the counts. Assumes nothing.
-use Rattle.std.proofs.Common.{◌≡◌, ℕ, zero, suc, ◌+◌, ◌-◌, ◌/◌, ◌%◌, ◌^◌, ◌<◌, ◌≤◌, ◌≢◌, List, [], ◌∷◌, ◌++◌, length, get_or, take, drop, set, replicate, Bool, true, false, cond, ltb, Some, None, Ok, Err, Result, sym, refl, ap, ◌∙◌, subst, ⊎_elim, inl, inr, append_assoc, append-nil, arith, length-drop, length-set, lt-ltb}
+use Rattle.std.proofs.Common.{◌≡◌, ℕ, zero, suc, ◌+◌, ◌-◌, ◌/◌, ◌%◌, ◌^◌, ◌<◌, ◌≤◌, ◌≢◌, List, [], ◌∷◌, ◌++◌, length, get_or, take, drop, set, replicate, Bool, true, false, cond, ltb, None, Ok, Err, Result, sym, refl, ap, ◌∙◌, subst, ⊎_elim, inl, inr, append_assoc, append-nil, arith, length-drop, length-set, lt-ltb}
 use Rattle.std.proofs.lemmas.Nat.{pow_pos}
 use Rattle.std.proofs.lemmas.List.{drop-drop, get_or-append_right, get_or-drop, get_or_append_left, length-replicate, take_all, take_at, get_or-set_same, get_or-set_other, set_past, take_more, take_more_set}
 use Rattle.std.proofs.lemmas.Result.{IfOk-at_ok}
 use Rattle.std.proofs.lemmas.Bool.{cases_eq, cases_lt}
 use Rattle.tables.specs.declared.fault.TableFault.{TableFault}
-use Rattle.tables.specs.declared.fault.TableCause.TheVariants.{Ended, MapBit}
+use Rattle.tables.specs.declared.fault.TableCause.TheVariants.{Ended}
 use Rattle.tables.specs.Bytes.{from_bytes}
 use Rattle.tables.specs.declared.part.Part.{Part}
 use Rattle.tables.specs.Taking.{end_of, ended, next_byte, next_word, Past}
 use Rattle.tables.specs.Shape.{Inside, Blank}
 use Rattle.tables.specs.Parts.{and_then}
-use Rattle.tables.specs.Read.{read_rows, behind, checked_row, read_row, read_count, read_map, checked_map, lowest_past, table_from, checked_count, ill, held}
+use Rattle.tables.specs.Read.{read_rows, behind, read_row, read_count, read_map, checked_map, lowest_past, table_from, checked_count, ill, held}
 use Rattle.tables.proofs.Accepted.{Row, row_accepted}
 
 -- what was read with rows in front
@@ -170,9 +170,6 @@ next_then : {X Y E : Type 0} (t : Bool) (e : E) (x : X) (f : X → Result Y E) �
 next_then true e x f = refl
 next_then false e x f = refl
 
-pub row_next : (end at columns : ℕ) (bs : List ℕ) → read_row end at columns bs ≡ and_then (next_word end bs) (λ w. checked_row w at columns)
-row_next end at columns bs = next_then (ltb (length bs) 8) (ended end) (from_bytes (take 8 bs)) (λ w. checked_row w at columns)
-
 -- ---- the map
 
 module _ (count columns : ℕ) (part : Part) where
@@ -180,13 +177,7 @@ module _ (count columns : ℕ) (part : Part) where
       ≡ and_then (next_word (end_of part) part.bytes.now) (λ map. checked_map count columns map (end_of part) part.at (drop 8 part.bytes.now))
   map_next = next_then (ltb (length part.bytes.now) 8) (ended (end_of part)) (from_bytes (take 8 part.bytes.now)) (λ map. checked_map count columns map (end_of part) part.at (drop 8 part.bytes.now))
 
-  pub map_ended : (e : TableFault) → Err e ≡ next_word (end_of part) part.bytes.now → Err e ≡ read_map count columns (end_of part) part.at part.bytes.now
-  map_ended e o = rw (map_next, ← o)
-
   module _ (map : ℕ) (o : Ok map ≡ next_word (end_of part) part.bytes.now) where
-    pub map_past : (b : ℕ) → Some b ≡ lowest_past map count → ill MapBit (part.at + b / 8) ≡ read_map count columns (end_of part) part.at part.bytes.now
-    map_past b l = rw (map_next, ← o, checked_map, ← l)
-
     pub map_held : None ≡ lowest_past map count → (part' : Part) → Past 8 part part'
         → held columns (read_rows count map columns (end_of part') part'.at part'.bytes.now) ≡ read_map count columns (end_of part) part.at part.bytes.now
     map_held l part' p = rw (map_next, ← o, checked_map, ← l, past_ends 8 part part' p, p.place, p.bytes)

@@ -1,9 +1,8 @@
--- Shifts past a word, and the place of a word's lowest set bit.
-use Rattle.std.proofs.Common.{◌≡◌, ℕ, zero, suc, ◌+◌, ◌-◌, ◌*◌, ◌/◌, ◌%◌, ◌^◌, ◌<◌, ◌≤◌, List, [], ◌∷◌, length, get_or, take, refl, add_comm, add-one, arith, pow_mono}
+-- Shifts past a word, and the place of a word's lowest set bit. Assumes nothing.
+use Rattle.std.proofs.Common.{◌≡◌, ℕ, zero, suc, ◌+◌, ◌-◌, ◌/◌, ◌%◌, ◌^◌, ◌<◌, ◌≤◌, refl, add_comm, add-one, arith, pow_mono}
 use native.Mathlib.Nat.{div-eq_of_lt}
 use lib.Count.{count_trailing_zeros, under}
 use Rattle.std.proofs.lemmas.Nat.{shr_below}
-use Rattle.tables.specs.Bytes.{from_bytes}
 
 -- nothing is left of a 64-bit word past its rows
 pub shr_past : (n limit : ℕ) → n < 2 ^ 64 → 64 ≤ limit → n / 2 ^ limit ≡ 0
@@ -28,20 +27,3 @@ past_lt n limit h l p =
     let small : n / 2 ^ limit < 2 ^ (64 - limit) = shr_below n (64 - limit) limit (rw (add_comm (64 - limit) limit, split) h) in
     let low : count_trailing_zeros 64 (n / 2 ^ limit) < 64 - limit = trailing_lt 64 (64 - limit) (n / 2 ^ limit) (omega arith) (omega arith) small in
     omega arith
-
--- eight bytes in the form in which `u64::from_le_bytes` tells them
-abbrev pub eight : List ℕ → ℕ
-eight bs =
-    get_or bs 0 0 + get_or bs 1 0 * 256 + get_or bs 2 0 * 65536 + get_or bs 3 0 * 16777216 + get_or bs 4 0 * 4294967296
-    + get_or bs 5 0 * 1099511627776 + get_or bs 6 0 * 281474976710656 + get_or bs 7 0 * 72057594037927936
-
-pub le_8 : (bs : List ℕ) → 8 ≤ length bs → eight bs ≡ from_bytes (take 8 bs)
-le_8 [] l = absurd (omega arith)
-le_8 (a ∷ []) l = absurd (omega arith)
-le_8 (a ∷ b ∷ []) l = absurd (omega arith)
-le_8 (a ∷ b ∷ c ∷ []) l = absurd (omega arith)
-le_8 (a ∷ b ∷ c ∷ d ∷ []) l = absurd (omega arith)
-le_8 (a ∷ b ∷ c ∷ d ∷ e ∷ []) l = absurd (omega arith)
-le_8 (a ∷ b ∷ c ∷ d ∷ e ∷ f ∷ []) l = absurd (omega arith)
-le_8 (a ∷ b ∷ c ∷ d ∷ e ∷ f ∷ g ∷ []) l = absurd (omega arith)
-le_8 (a ∷ b ∷ c ∷ d ∷ e ∷ f ∷ g ∷ h ∷ bs) l = omega arith

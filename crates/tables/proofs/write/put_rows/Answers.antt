@@ -1,10 +1,7 @@
-use Rattle.std.proofs.Common.{get_or, refl, ◌∙◌, arith}
+use Rattle.std.proofs.Common.{get_or, ◌∙◌, arith}
 use Rattle.tables.proofs.Putting.{putting_zero, putting_some, putting_room, putting_done, word_laid}
 use Rattle.tables.proofs.write.put_rows.Goals as goal
 use Rattle.tables.proofs.write.put_rows.Goals.{then-row-ne0, else-row-ne0}
-
-pub loop-row-init : goal.loop-row-init
-loop-row-init c = record { long = refl; place = refl; whole = refl }
 
 pub slice_bounds-copy_from_slice-end : goal.slice_bounds-copy_from_slice-end
 slice_bounds-copy_from_slice-end c = putting_room c.loop-row.invariant c.loop-row-test.true c.if-row-ne0.true c.requires
