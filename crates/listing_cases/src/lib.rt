@@ -61,7 +61,7 @@ mod tests {
     fn short_buffer(rt: HostRuntime) {
         let mut out = [7; 1535];
         let answer = planbench_job(&[9], &mut out);
-        assert_eq!(rt; answer.map_err(|reason| reason.number()), Err(18));
+        assert_eq!(rt; answer.map_err(|reason| u8::from(reason)), Err(18));
         assert_eq!(rt; out[0], 7);
     }
 

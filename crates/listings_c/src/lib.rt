@@ -28,7 +28,7 @@ impl From<Result<usize, Reason>> for JobAnswer {
                 written,
             },
             Err(reason) => JobAnswer {
-                declined: u32::from(reason.number()),
+                declined: u32::from(u8::from(reason)),
                 written: 0,
             },
         }
