@@ -2,7 +2,7 @@
 use Rattle.std.proofs.Common.{◌≡◌, ℕ, zero, suc, ◌+◌, ◌*◌, ◌<◌, ◌≤◌, Bool, true, false, cond, eqb, ltb, List, [], ◌∷◌, ◌++◌, length, get_or, take, Some, None, codes, decimal, Option, sym, refl, ap, ap₂, ◌∙◌, subst, append_assoc, append-nil, arith, length-append}
 use Rattle.std.proofs.lemmas.Fmt.{length-decimal-le}
 use Rattle.std.proofs.lemmas.List.{length-take-le, take-take, take_more}
-use Rattle.std.proofs.lemmas.Bool.{cond-false, cond-true, eq-eqb, ne_eqb}
+use Rattle.std.proofs.lemmas.Bool.{cond-false, ne_eqb}
 use Rattle.text.specs.Lay.{lay}
 use Rattle.text.specs.declared.Text.{Text}
 use Rattle.text.specs.Put.{Put, Wrote}
@@ -48,13 +48,10 @@ blank_led_push : (w : List ℕ) (b : ℕ) → blank_led (w ++ b ∷ []) ≡ blan
 blank_led_push [] b = ap (λ t. 32 ∷ t) (append-nil (decimal b))
 blank_led_push (x ∷ w) b = ap (λ t. 32 ∷ (decimal x ++ t)) (blank_led_push w b) ∙ ap (λ t. 32 ∷ t) (sym (append_assoc (decimal x) (blank_led w) (32 ∷ decimal b)))
 
-pub numbered_first : (u b : ℕ) → u ≡ 0 → numbered u b ≡ decimal b
-numbered_first u b e = cond-true (eqb u 0) _ _ (eq-eqb u 0 e)
-
-pub numbered_later : (u b : ℕ) → (u ≡ 0 → ⊥) → numbered u b ≡ 32 ∷ decimal b
+numbered_later : (u b : ℕ) → (u ≡ 0 → ⊥) → numbered u b ≡ 32 ∷ decimal b
 numbered_later u b ne = cond-false (eqb u 0) _ _ (ne_eqb u 0 ne)
 
-pub spaced_push : (w : List ℕ) (b : ℕ) → spaced (w ++ b ∷ []) ≡ spaced w ++ numbered (length w) b
+spaced_push : (w : List ℕ) (b : ℕ) → spaced (w ++ b ∷ []) ≡ spaced w ++ numbered (length w) b
 spaced_push [] b = append-nil (decimal b)
 spaced_push (x ∷ w) b = ap (λ t. decimal x ++ t) (blank_led_push w b) ∙ sym (append_assoc (decimal x) (blank_led w) (32 ∷ decimal b))
     ∙ ap (λ t. (decimal x ++ blank_led w) ++ t) (sym (numbered_later (suc (length w)) b (λ e. omega arith)))
@@ -65,7 +62,7 @@ spaced_more w u h =
     let long : length (take u w) ≡ u = length-take-le u w (omega arith) in
     ap spaced (take_more w u 0 h) ∙ spaced_push (take u w) (get_or w u 0) ∙ ap (λ i. spaced (take u w) ++ numbered i (get_or w u 0)) long
 
-pub two_digits : (b : ℕ) → b < 100 → length (decimal b) ≤ 2
+two_digits : (b : ℕ) → b < 100 → length (decimal b) ≤ 2
 two_digits b h = length-decimal-le 2 b (omega arith) (omega arith) (omega arith)
 
 blank_led_short : (w : List ℕ) → ((u : ℕ) → get_or w u 0 < 100) → length (blank_led w) ≤ 3 * length w

@@ -38,6 +38,7 @@ pub fn planbench_job(input: &[u8], output: &mut [u8]) -> Result<usize, Reason>
         return Err(Reason::NoRoom);
     }
     let mut text = Text::new(output);
+    // No text is longer than the room, so each fits.
     write_job(&mut text, input).ok_or(Reason::NoRoom)?;
     Ok(text.len)
 }

@@ -45,3 +45,19 @@ pub extern "C" fn planbench_job(input: &[u8], output: &mut [u8]) -> JobAnswer
 {
     JobAnswer::from(listings::planbench_job(input, output))
 }
+
+#[cfg(test)]
+mod tests {
+    use crate::JobAnswer;
+    use refusals::Reason;
+
+    #[test]
+    fn in_c(rt: HostRuntime) {
+        let listed = JobAnswer::from(Ok(54));
+        assert_eq!(rt; listed.declined, 0);
+        assert_eq!(rt; listed.written, 54);
+        let declined = JobAnswer::from(Err(Reason::NoRoom));
+        assert_eq!(rt; declined.declined, 18);
+        assert_eq!(rt; declined.written, 0);
+    }
+}

@@ -1,8 +1,7 @@
 -- Laws of bytes written into a buffer. Assumes nothing.
-use Rattle.std.proofs.Common.{◌≡◌, ℕ, ◌+◌, ◌-◌, ◌^◌, ◌<◌, ◌≤◌, List, [], ◌∷◌, ◌++◌, length, take, drop, set, decimal, sym, refl, ◌∙◌, append_assoc, arith, length-set}
+use Rattle.std.proofs.Common.{◌≡◌, ℕ, ◌+◌, ◌-◌, ◌≤◌, List, [], ◌∷◌, ◌++◌, length, take, drop, set, sym, refl, ◌∙◌, append_assoc, arith, length-set}
 use borrow.Rule.Slice.PartMut.{put_mid}
 use Rattle.text.specs.Lay.{lay}
-use Rattle.std.proofs.lemmas.Fmt.{length-decimal-le}
 use Rattle.std.proofs.lemmas.List.{take_more_set, drop-set-lt, drop-drop, take-append-drop}
 
 pub lay_nil : (out : List ℕ) (at : ℕ) → lay out at [] ≡ out
@@ -24,14 +23,6 @@ lay_append out at [] b = let e : at + 0 ≡ at = omega arith in rw e
 lay_append out at (x ∷ a) b =
     let e : at + 1 + length a ≡ at + length (x ∷ a) = omega arith in
     rw (← e) (lay_append (set out at x) (at + 1) a b)
-
-pub lay_push : (out : List ℕ) (at : ℕ) (a : List ℕ) (b : ℕ) → lay out at (a ++ b ∷ []) ≡ set (lay out at a) (at + length a) b
-unfolding lay
-lay_push out at a b = lay_append out at a (b ∷ [])
-
--- twenty digits are enough for 64 bits
-pub length_short : (n : ℕ) → n < 2 ^ 64 → length (decimal n) ≤ 20
-length_short n h = length-decimal-le 20 n (omega arith) (omega arith) h
 
 -- what a buffer holds once a text that fits is written to it
 pub lay_is : (out : List ℕ) (at : ℕ) (bs : List ℕ) → at + length bs ≤ length out → lay out at bs ≡ take at out ++ (bs ++ drop (at + length bs) out)
