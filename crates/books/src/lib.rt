@@ -40,8 +40,8 @@ pub trait Book {
 pub fn suited_rows<B: Book>(book: &B, units: &[B::UnitCard], bays: &[B::BayCard]) -> [u64; 24]
     ensures { (u b : ℕ) → pairs result u b ≡ (nat_lt u 24 && (nat_lt b 64 && (handed (B.Book.suiting book.now) units.now bays.now).suits u b)) }
 {
-    let units = &units[0..units.len().min(24)];
-    let bays = &bays[0..bays.len().min(64)];
+    let units = &units[..units.len().min(24)];
+    let bays = &bays[..bays.len().min(64)];
     let mut rows = [0; 24];
     for (u, unit) in units.iter().enumerate() {
         let mut row = 0;
