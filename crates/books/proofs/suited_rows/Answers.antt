@@ -1,4 +1,4 @@
-use Rattle.std.proofs.Common.{◌≡◌, ℕ, ◌-◌, ◌<◌, Bool, take, sym, ap, ◌∙◌, arith}
+use Rattle.std.proofs.Common.{◌≡◌, ℕ, ◌<◌, Bool, take, sym, ap, ◌∙◌, arith}
 use Rattle.std.proofs.lemmas.List.{length-take}
 use Rattle.graphs.specs.Rows.{bit}
 use Rattle.graphs.proofs.Rows.{upto_none, upto_set, upto_pass}
@@ -15,10 +15,10 @@ loop-b-init g c = upto_none _
 
 pub loop-b-preserved : goal.loop-b-preserved
 loop-b-preserved g c =
-    let bays = take (c.min-2.result - 0) c.args.bays.now in
+    let bays = take c.min-2.result c.args.bays.now in
     let b = c.loop-b.b in
     let p : ℕ → Bool = passes_at (g.B.Book.suiting c.args.book.now c.index-units-u.result) bays in
-    let below : b < 64 = omega (arith, length-take (c.min-2.result - 0) c.args.bays.now) in
+    let below : b < 64 = omega (arith, length-take c.min-2.result c.args.bays.now) in
     let here : p b ≡ c.suits.result =
     passes_here (g.B.Book.suiting c.args.book.now c.index-units-u.result) bays b c.index-bays-b.result c.loop-b-test.true c.index-bays-b.is ∙ sym c.suits.ensures in
     elim c.if-suits.branch [
@@ -29,11 +29,11 @@ loop-b-preserved g c =
 pub loop-u-preserved : goal.loop-u-preserved
 loop-u-preserved g c =
     let test = g.B.Book.suiting c.args.book.now in
-    let units = take (c.min.result - 0) c.args.units.now in
-    let bays = take (c.min-2.result - 0) c.args.bays.now in
+    let units = take c.min.result c.args.units.now in
+    let bays = take c.min-2.result c.args.bays.now in
     let u = c.loop-u.u in
     let unit = c.index-units-u.result in
-    let below : u < 24 = omega (arith, length-take (c.min.result - 0) c.args.units.now) in
+    let below : u < 24 = omega (arith, length-take c.min.result c.args.units.now) in
     built_more c.loop-u.rows u c.loop-b.row (handed test units bays).suits below c.loop-u.invariant
     (λ b.
     upto_all c.loop-b.b c.loop-b.row (passes_at (test unit) bays) c.loop-b.invariant (λ k le. passes_past (test unit) bays k (omega (arith, c.loop-b-test.false))) b
@@ -42,8 +42,8 @@ loop-u-preserved g c =
 pub returns : goal.returns
 returns g c = λ u b.
     let test = g.B.Book.suiting c.args.book.now in
-    let i = c.min.result - 0 in
-    let j = c.min-2.result - 0 in
+    let i = c.min.result in
+    let j = c.min-2.result in
     let us = c.args.units.now in
     let bs = c.args.bays.now in
     built_all c.loop-u.rows c.loop-u.u (handed test (take i us) (take j bs)).suits c.loop-u.invariant
