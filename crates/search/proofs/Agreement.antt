@@ -1,11 +1,16 @@
 -- Agreement read from the other side. Assumes nothing.
-use Rattle.std.proofs.Common.{◌≡◌, ℕ, Bool, not, ◌&&◌, eqb, sym, ap, ◌∙◌, arith}
+use Rattle.std.proofs.Common.{◌≡◌, ℕ, Bool, true, false, not, ◌&&◌, eqb, sym, refl, ap, ◌∙◌, arith}
 use mathlib.Core.Path.{fun_ext}
 use Rattle.std.proofs.lemmas.Bool.Decides.{nat_tests}
 use Rattle.graphs.specs.Rows.{row_of}
 use Rattle.graphs.specs.Graph.{Graph}
 use Rattle.placements.specs.Agreement.{half, agrees_if}
-use Rattle.search.proofs.Bools.{and_swap}
+
+and_swap : (x y : Bool) → (x && y) ≡ (y && x)
+and_swap true true = refl
+and_swap true false = refl
+and_swap false true = refl
+and_swap false false = refl
 
 pub agrees_flip : (r : Graph) (out back s : Bool) (b c : ℕ) → agrees_if r out back s b c ≡ agrees_if r back out s c b
 agrees_flip r out back s b c =

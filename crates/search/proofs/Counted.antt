@@ -9,7 +9,7 @@ use Rattle.filters.specs.Filter.{Lawful}
 use Rattle.filters.specs.Shapes.{shape_of}
 use Rattle.search.specs.Walk.{Setting, filtered, Outcome, any_empty, after_try, offered, nothing, counted, or_else, scan, tried, settle, walk_from}
 use Rattle.search.specs.Tries.{sum_of, list_count, reached, not_past, up_to, CountsTries}
-use Rattle.search.proofs.Bools.{and_true, and_false}
+use Rattle.std.proofs.Math.Bool.{and-true, and-false}
 use Rattle.search.proofs.Placing.{Stands, Wanted, next_stands, try_first}
 use Rattle.search.proofs.Steps.{tried_is}
 use Rattle.search.proofs.Whole.{stands}
@@ -165,7 +165,7 @@ module _ (w : Setting) (last : List ℕ) (lawful : Lawful w.filter) (ga : Sound 
     bay_after : (q : List ℕ) → get_or q u 0 < b → at_bay later n (Reached u tied rows (Some q)) b ≡ 0
     bay_after q l =
         at_none later n (Reached u tied rows (Some q)) b
-        (λ r. ap (λ (s : Bool). reached w last tied u rows (b ∷ r) && s) (up_more u b q r l) ∙ and_false (reached w last tied u rows (b ∷ r)))
+        (λ r. ap (λ (s : Bool). reached w last tied u rows (b ∷ r) && s) (up_more u b q r l) ∙ and-false (reached w last tied u rows (b ∷ r)))
 
     module _ (o : Offered ≡ true) (below : any_empty next ≡ false → Below.tries ≡ list_count later n (Reached (suc u) tied' next Below.found)) where
       bay_failed : (f : Option (List ℕ)) → Here.found ≡ None → ((q : List ℕ) → f ≡ Some q → b < get_or q u 0) → at_bay later n (Reached u tied rows f) b ≡ Here.tries
@@ -173,7 +173,7 @@ module _ (w : Setting) (last : List ℕ) (lawful : Lawful w.filter) (ga : Sound 
         where
           all : at_bay later n (Reached u tied rows f) b ≡ 1 + list_count later n (reached w last tied' (suc u) next)
           all = at_same later n (Reached u tied rows f) (reached w last tied' (suc u) next) b
-              (λ r. ap₂ (λ (s t : Bool). s && t) (reach r true o) (up_less u b f r h) ∙ and_true (reached w last tied' (suc u) next r))
+              (λ r. ap₂ (λ (s t : Bool). s && t) (reach r true o) (up_less u b f r h) ∙ and-true (reached w last tied' (suc u) next r))
 
           go : (t : Bool) → any_empty next ≡ t → 1 + list_count later n (reached w last tied' (suc u) next) ≡ Here.tries
           go true z =
@@ -185,7 +185,7 @@ module _ (w : Setting) (last : List ℕ) (lawful : Lawful w.filter) (ga : Sound 
               let found : Below.found ≡ None = sym (ap (λ (x : Outcome). x.found) is) ∙ none in
               ap (λ (k : ℕ). 1 + k)
               (list_same later n (reached w last tied' (suc u) next) (Reached (suc u) tied' next Below.found)
-              (λ c r. sym (ap (λ (x : Option (List ℕ)). reached w last tied' (suc u) next (c ∷ r) && up_to (tail_of (suc u) x) (c ∷ r)) found ∙ and_true (reached w last tied' (suc u) next (c ∷ r))))
+              (λ c r. sym (ap (λ (x : Option (List ℕ)). reached w last tied' (suc u) next (c ∷ r) && up_to (tail_of (suc u) x) (c ∷ r)) found ∙ and-true (reached w last tied' (suc u) next (c ∷ r))))
               ∙ sym (below z))
               ∙ sym (ap (λ (x : Outcome). x.tries) is)
 

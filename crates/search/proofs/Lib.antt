@@ -1,4 +1,3 @@
-pub mod Bools
 pub mod Agreement
 pub mod Scan
 pub mod Narrowing

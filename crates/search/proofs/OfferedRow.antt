@@ -8,7 +8,7 @@ use Rattle.std.proofs.lemmas.Bool.Decides.{nat_tests}
 use Rattle.graphs.specs.Rows.{bit}
 use Rattle.graphs.proofs.Bits.{bit_of_and, bit_not, bit_none, bit_below}
 use Rattle.search.specs.Walk.{offered}
-use Rattle.search.proofs.Bools.{and_true, and_false}
+use Rattle.std.proofs.Math.Bool.{and-true, and-false}
 
 -- the first bay that is not passed over
 abbrev start_of : ℕ → Bool → ℕ
@@ -36,7 +36,7 @@ module _ (row bound : ℕ) (final : Bool) (fits : row < 2 ^ 64) where
       let less : 2 ^ from < 2 ^ 64 = pow_below from 64 l in
       let lows : bit low b ≡ ltb b from =
       ap (λ (n : ℕ). bit n b) (let z : low ≡ (2 ^ from - 1) - 0 = omega arith in z)
-      ∙ bit_not from 0 b (pow_pos from) ∙ ap (λ (t : Bool). ltb b from && not t) (bit_none b) ∙ and_true (ltb b from) in
+      ∙ bit_not from 0 b (pow_pos from) ∙ ap (λ (t : Bool). ltb b from && not t) (bit_none b) ∙ and-true (ltb b from) in
       bit_of_and row (18446744073709551615 - low) b
       ∙ offer_is b (bit (18446744073709551615 - low) b)
       (λ t. let lb : b < 64 = bit_below row 64 b fits t in
@@ -44,5 +44,5 @@ module _ (row bound : ℕ) (final : Bool) (fits : row < 2 ^ 64) where
 
   pub offers_none : 64 ≤ bound + bool_byte final → (b : ℕ) → bit 0 b ≡ offered row true bound final b
   offers_none l b =
-      bit_none b ∙ sym (and_false (bit row b))
+      bit_none b ∙ sym (and-false (bit row b))
       ∙ offer_is b false (λ t. let lb : b < 64 = bit_below row 64 b fits t in sym (ap not (lt-ltb b from (omega arith))))

@@ -9,7 +9,7 @@ use Rattle.graphs.proofs.Bits.{bit_none}
 use Rattle.graphs.proofs.Lowest.{Turn}
 use Rattle.filters.specs.Filter.{Lawful}
 use Rattle.search.specs.Walk.{Setting, Outcome, any_empty, narrowed, after_try, offered, nothing, counted, or_else, scan, tried, settle, chosen}
-use Rattle.search.proofs.Bools.{and_true}
+use Rattle.std.proofs.Math.Bool.{and-true}
 use Rattle.search.proofs.Narrowing.{narrow_long}
 
 -- ---- a scan
@@ -119,7 +119,7 @@ module _ (total : Outcome) (offer : ℕ → Bool) (here : ℕ → Outcome) (n t�
     bits_after c =
         turn.but c
         ∙ elim (cases_lt b c) [
-          | inl l ↦ ap (λ (x : Bool). bit rest c && not x) (ne_eqb c b (λ z. omega arith)) ∙ and_true (bit rest c) ∙ pending.bits c
+          | inl l ↦ ap (λ (x : Bool). bit rest c && not x) (ne_eqb c b (λ z. omega arith)) ∙ and-true (bit rest c) ∙ pending.bits c
               ∙ ap (λ (x : Bool). x && offer c) (le-leb pending.at c (let k = leb-true pending.at b both.0 in omega arith) ∙ sym (le-leb (b + 1) c (omega arith)))
           | inr l ↦ off c l ∙ sym (ap (λ (x : Bool). x && offer c) (lt-leb (b + 1) c (omega arith)))
         ]

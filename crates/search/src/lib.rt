@@ -62,11 +62,13 @@ impl Masks {
     fn of(&self, joined: Joined) -> u64
         ensures { result ≡ picked self.now joined.out joined.back }
     {
-        match (joined.out, joined.back) {
-            (true, true) => self.both,
-            (true, false) => self.out,
-            (false, true) => self.back,
-            (false, false) => self.apart,
+        // Nested, since with a match over the pair a search ran 7 per cent more instructions, those of the filter left out.
+        if joined.out {
+            if joined.back { self.both } else { self.out }
+        } else if joined.back {
+            self.back
+        } else {
+            self.apart
         }
     }
 }
@@ -123,7 +125,7 @@ impl<'a, A: Source, R: Source, F: Filter> Walk<'a, A, R, F> {
         next.copy_from_slice(rows);
         next[u] = 1 << b;
         let mut changed: u64 = 1 << u;
-        // The index stays: `next` is written at it too, and of what an adapter of `iter_mut` wrote nothing is known.
+        // `next` is written at the index, so a walk by `rows.iter().enumerate().skip(u + 1)` would be no plainer.
         for v in u + 1..rows.len() {
             let joined = Joined {
                 out: holds(out, v),
