@@ -1,6 +1,4 @@
 use Rattle.std.proofs.Common.{◌≡◌, ℕ, ◌-◌, Bool, true, false, not, ◌&&◌, ◌||◌, leb, List, get_or, sym, ap, ap₂, ◌∙◌, refl, arith}
-use lib.Bits.{bit_and}
-use Rattle.graphs.specs.Rows.{bit}
 use Rattle.graphs.specs.Graph.{Graph}
 use Rattle.graphs.proofs.Bits.{bit_of_and}
 use Rattle.degree.specs.Degree.{degree_within, all_nodes}
