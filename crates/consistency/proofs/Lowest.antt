@@ -1,10 +1,7 @@
 -- What a row leaves of another, bay for bay. Assumes nothing.
-use Rattle.std.proofs.Common.{◌≡◌, ℕ, zero, suc, ◌-◌, ◌/◌, ◌%◌, ◌^◌, ◌<◌, ◌≤◌, Bool, true, false, not, ◌&&◌, ◌||◌, eqb, ltb, sym, refl, ap, ◌∙◌, subst, inl, inr, arith, pow_mono}
-use native.Mathlib.Nat.{pow-succ'}
+use Rattle.std.proofs.Common.{◌≡◌, ℕ, ◌-◌, ◌/◌, ◌^◌, ◌<◌, ◌≤◌, Bool, true, false, not, ◌&&◌, ◌||◌, eqb, ltb, sym, refl, ap, ◌∙◌, subst, inl, inr}
 use lib.Bits.{bit_and, bit_or}
-use lib.Count.{count_trailing_zeros, under}
-use Rattle.std.proofs.lemmas.Bool.{both_ways, false≢true, ne_eqb, lt-ltb, ltb-true, cases_eq, cases_Bool, and_parts, and_from, and_left, or_cases, or_left, or_right, not_from_false}
-use Rattle.std.proofs.lemmas.Bool.Decides.{nat_tests}
+use Rattle.std.proofs.lemmas.Bool.{both_ways, false≢true, ne_eqb, lt-ltb, ltb-true, cases_eq, cases_Bool, and_parts, and_from, or_cases, or_left, or_right, not_from_false}
 use Rattle.graphs.specs.Rows.{bit, row_of}
 use Rattle.graphs.specs.Graph.{Graph}
 use Rattle.graphs.proofs.Bits.{bit_none, bit_of_and, bit_of_or}

@@ -32,12 +32,9 @@ code_below true false = omega arith
 code_below false true = omega arith
 code_below false false = omega arith
 
--- the ways in that order
-abbrev pub ways : List Joined
-ways = record { out = false; back = false } ∷ record { out = true; back = false } ∷ record { out = false; back = true } ∷ record { out = true; back = true } ∷ []
-
+-- the way of a number
 abbrev pub way : ℕ → Joined
-way n = get_or ways n (record { out = false; back = false })
+way n = record { out = eqb (n % 2) 1; back = eqb (n / 2) 1 }
 
 code_way : (n : ℕ) (s t : Bool) → code s t ≡ n → (s ≡ (way n).out) × (t ≡ (way n).back)
 unfolding code

@@ -1,9 +1,9 @@
 -- The degrees of a sound graph, and rows of the nodes by their degrees. Assumes nothing.
-use Rattle.std.specs.Prelude.{◌≡◌, ℕ, ◌+◌, ◌-◌, ◌*◌, ◌%◌, ◌^◌, ◌<◌, ◌≤◌, Bool, true, false, not, ◌&&◌, ◌||◌, ltb, List, length, set, replicate, ◌==◌, count_ones, nat_eq, nat_le, nat_lt, slice_index, slice_index_or, refl}
-use Rattle.std.proofs.Common.{sym, ap, ap₂, subst, ◌∙◌, inl, inr, arith, pow_mono, length-set, get_or-set_same, get_or-set_other}
+use Rattle.std.specs.Prelude.{◌≡◌, ℕ, ◌+◌, ◌-◌, ◌*◌, ◌%◌, ◌^◌, ◌<◌, ◌≤◌, Bool, true, false, not, ◌&&◌, ◌||◌, ltb, List, length, set, replicate, ◌==◌, count_ones, nat_eq, nat_le, nat_lt, slice_index, refl}
+use Rattle.std.proofs.Common.{sym, ap, subst, ◌∙◌, inl, inr, arith, pow_mono, length-set, get_or-set_same, get_or-set_other}
 use Rattle.std.specs.Int.Bits.{bit_and, bit_or}
 use Rattle.std.proofs.lemmas.List.{length-replicate, get_or-replicate}
-use Rattle.std.proofs.lemmas.Bool.{cases_Bool, cases_eq, cases_lt, eq-eqb, ne_eqb, or_left, not_from_false, lt-ltb, ltb-true, and_parts}
+use Rattle.std.proofs.lemmas.Bool.{cases_eq, cases_lt, eq-eqb, ne_eqb, lt-ltb, ltb-true, and_parts}
 use Rattle.std.proofs.lemmas.Bool.Decides.{nat_tests}
 use Rattle.graphs.specs.Rows.{bit, row_of}
 use Rattle.graphs.specs.Graph.{Graph, Sound}
@@ -12,7 +12,7 @@ use Rattle.graphs.proofs.Rows.{Upto, upto_none, upto_set, upto_pass, bit_row_of,
 use Rattle.placements.specs.Counting.{count_below, degree}
 use Rattle.placements.proofs.Counting.{count_same, count_not, count_all, ones_row_of, degree_less as degree_below}
 use Rattle.placements.proofs.Masks.{bit_full, bit_inverse}
-use Rattle.degree.specs.Degree.{degree_within, all_nodes, degree_test}
+use Rattle.degree.specs.Degree.{degree_within, all_nodes, ByDegree}
 
 -- the ones of a row within a set
 pub ones_within : (n : ℕ) (p : ℕ → Bool) (set : ℕ) → count_ones (bit_and (row_of n p) set) ≡ count_below n (λ b. p b && bit set b)
@@ -127,17 +127,18 @@ module _ (r : Graph) (b : ℕ) (lb : b < r.count) where
       ∙ ap (λ (v : Bool). v && nat_lt joints j) (lt-ltb b r.count lb)
 
   -- outside it: the nodes with at least so many
-  pub at_least_is : r.count ≤ 64 → (j x : ℕ) → x ≡ row_of r.count (λ c. nat_lt (degree_within r all_nodes c) j)
-      → bit (18446744073709551615 - x) b ≡ nat_le j joints
-  at_least_is few j x is =
-      let fits : x < 2 ^ r.count = bits_below r.count x (λ c t. ltb-true c r.count (and_parts (nat_lt c r.count) _ (sym (ap (λ (v : ℕ). bit v c) is ∙ bit_row_of r.count _ c) ∙ t)).0) in
-      let most : 2 ^ r.count ≤ 2 ^ 64 = pow_mono few in
-      bit_inverse x b (omega arith) (omega arith) ∙ ap not (fewer_is j x is)
-      ∙ (let e : not (nat_lt joints j) ≡ nat_le j joints = grind (arith, nat_tests) in e)
+  pub at_least_is : Sound r → (rows : List ℕ) → ByDegree r rows → (j d : ℕ) → j ≡ d → j < 65
+      → bit (18446744073709551615 - slice_index rows j) b ≡ nat_le d joints
+  at_least_is s rows h j d e lj =
+      let is = h j lj in
+      let fits : slice_index rows j < 2 ^ r.count = bits_below r.count (slice_index rows j)
+      (λ c t. ltb-true c r.count (and_parts (nat_lt c r.count) _ (sym (ap (λ (v : ℕ). bit v c) is ∙ bit_row_of r.count _ c) ∙ t)).0) in
+      let most : 2 ^ r.count ≤ 2 ^ 64 = pow_mono s.few in
+      bit_inverse (slice_index rows j) b (omega arith) (omega (arith, s.few)) ∙ ap not (fewer_is j (slice_index rows j) is)
+      ∙ (let q : not (nat_lt joints j) ≡ nat_le d joints = grind (arith, nat_tests) in q)
 
   -- in it: the nodes that are not joined to at least so many others
-  pub apart_is : Sound r → (z x : ℕ) → x ≡ row_of r.count (λ c. nat_lt (degree_within r all_nodes c) (r.count - z))
-      → bit x b ≡ nat_le z (r.count - 1 - joints)
-  apart_is s z x is =
+  pub apart_is : Sound r → (rows : List ℕ) → ByDegree r rows → (i z : ℕ) → i ≡ r.count - z → bit (slice_index rows i) b ≡ nat_le z (r.count - 1 - joints)
+  apart_is s rows h i z e =
       let less : joints < r.count = degree_less r s b in
-      fewer_is (r.count - z) x is ∙ (let e : nat_lt joints (r.count - z) ≡ nat_le z (r.count - 1 - joints) = grind (arith, nat_tests) in e)
+      fewer_is i (slice_index rows i) (h i (omega (arith, s.few))) ∙ (let q : nat_lt joints i ≡ nat_le z (r.count - 1 - joints) = grind (arith, nat_tests) in q)

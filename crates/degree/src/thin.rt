@@ -2,23 +2,24 @@
 ghost use Rattle.std.specs.Prelude.{◌≡◌, ℕ, ◌<◌};
 ghost use Rattle.graphs.specs.Rows.{bit};
 ghost use Rattle.filters.specs.Filter.{Counted};
-ghost use Rattle.degree.specs.Degree.{degree_meaning, degree_test};
+ghost use Rattle.degree.specs.Degree.{degree_meaning, degree_test, ByDegree};
 ghost use Rattle.degree.specs.Worked.{Worked};
 
-use crate::joints::{Degrees, degree_of};
+use crate::joints::{degree_of, with_fewer};
 use filters::{Counts, empty_rows, nothing_taken, well_shaped};
 use graphs::Source;
 use placements::Problem;
 
 // The bays that have joints enough for the unit: at least as many, and in strict use not too many.
-fn enough<A: Source, R: Source>(problem: &Problem<A, R>, bays: &Degrees<R>, u: usize) -> u64
-    requires { bays.now.room.now ≡ problem.now.room.now }
+fn enough<A: Source, R: Source>(problem: &Problem<A, R>, fewer: &[u64; 65], u: usize) -> u64
+    requires { ByDegree (R.Source.graph problem.now.room.now) fewer.now }
     ensures { (b : ℕ) → b < (R.Source.graph problem.now.room.now).count → bit result b ≡ degree_test (A.Source.graph problem.now.arrangement.now) (R.Source.graph problem.now.room.now) problem.now.strict u b }
 {
     let joints = degree_of(problem.arrangement, u);
-    let many = bays.at_least(joints);
+    let many = !fewer[joints];
     if problem.strict {
-        many & bays.apart_from(problem.arrangement.count() - 1 - joints)
+        let others = problem.arrangement.count() - 1 - joints;
+        many & fewer[problem.room.count().saturating_sub(others)]
     } else {
         many
     }
@@ -33,10 +34,10 @@ pub fn thin_by_degree<A: Source, R: Source>(problem: &Problem<A, R>, rows: &mut 
     if !well_shaped(problem, rows) {
         return nothing_taken(rows);
     }
-    let bays = Degrees::of(problem.room);
+    let fewer = with_fewer(problem.room);
     let mut taken: usize = 0;
     for (u, row) in rows.iter_mut().enumerate() {
-        let left = *row & enough(problem, &bays, u);
+        let left = *row & enough(problem, &fewer, u);
         taken += (row.count_ones() - left.count_ones()) as usize;
         *row = left;
     }

@@ -26,28 +26,6 @@ pub struct Joined {
     pub back: bool,
 }
 
-impl Joined {
-    // Each way in which two units may be joined.
-    pub const ALL: [Joined; 4] = [
-        Joined {
-            out: false,
-            back: false,
-        },
-        Joined {
-            out: true,
-            back: false,
-        },
-        Joined {
-            out: false,
-            back: true,
-        },
-        Joined {
-            out: true,
-            back: true,
-        },
-    ];
-}
-
 // The bays that one direction of a joint leaves: where the units are joined those of the row, else all, but in strict use those
 // outside the row.
 fn one_way(row: u64, joined: bool, strict: bool) -> u64

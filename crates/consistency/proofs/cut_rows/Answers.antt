@@ -1,6 +1,5 @@
-use Rattle.std.proofs.Common.{ℕ, ◌+◌, ◌-◌, ◌*◌, ◌%◌, ◌^◌, ◌<◌, length, get_or, set, sym, ap, ◌∙◌, subst, arith, length-set, get_or-set_same}
-use lib.Bits.{bit_and, bit_or, and_le_l}
-use lib.Count.{ones}
+use Rattle.std.proofs.Common.{ℕ, get_or, sym, ap, ◌∙◌, subst, arith, length-set, get_or-set_same}
+use lib.Bits.{bit_and, and_le_l}
 use Rattle.graphs.specs.declared.RowNodes.{RowNodes}
 use Rattle.graphs.proofs.Lowest.{turn, no_more}
 use Rattle.consistency.proofs.Cuts.{Cutting, cutting_start, lowest_here, cutting_pass, cutting_step, step_few, cut_all, cut_short}

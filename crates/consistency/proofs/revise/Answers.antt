@@ -1,5 +1,5 @@
 use Rattle.std.proofs.Common.{ℕ, ◌-◌, ◌/◌, ◌^◌, sym, ap, ◌∙◌, subst}
-use lib.Bits.{bit_and, bit_or}
+use lib.Bits.{bit_and}
 use Rattle.graphs.specs.Graph.{Graph}
 use Rattle.graphs.specs.declared.RowNodes.{RowNodes}
 use Rattle.graphs.proofs.Lowest.{turn, no_more}

@@ -1,5 +1,4 @@
-use Rattle.std.proofs.Common.{ℕ, ◌+◌, ◌<◌, ◌∙◌, arith}
-use lib.Count.{count_trailing_zeros}
+use Rattle.std.proofs.Common.{◌+◌, ◌<◌, ◌∙◌, arith}
 use Rattle.graphs.specs.Graph.{Graph}
 use Rattle.filters.specs.Shapes.{shape_of, shaped_few}
 use Rattle.consistency.proofs.Steps.{thin_none, cleared}
@@ -30,14 +29,14 @@ bounds-rows-v g c = (lowest_unit c.sweep.invariant (omega arith)).1
 pub overflow_shl-others : goal.overflow_shl-others
 overflow_shl-others g c = omega (arith, (lowest_unit c.sweep.invariant (let l : 0 < c.sweep.changed = omega arith in l)).0, (g.A.Source.sound c.args.problem.now.arrangement.now).few)
 
-pub loop-joined-init : goal.loop-joined-init
-loop-joined-init g c = turn_start c.sweep.invariant (omega arith)
+pub loop-class-init : goal.loop-class-init
+loop-class-init g c = turn_start c.sweep.invariant (omega arith)
 
 pub sweep-smaller : goal.sweep-smaller
-sweep-smaller g c = turn_less (omega arith) c.loop-joined.invariant
+sweep-smaller g c = turn_less (omega arith) c.loop-class.invariant
 
 pub sweep-preserved : goal.sweep-preserved
-sweep-preserved g c = turn_end c.sweep.invariant (omega arith) c.loop-joined.invariant (omega arith)
+sweep-preserved g c = turn_end c.sweep.invariant (omega arith) c.loop-class.invariant (omega arith)
 
 pub cut_class-cut-requires : goal.cut_class-cut-requires
 cut_class-cut-requires g c =
@@ -45,25 +44,25 @@ cut_class-cut-requires g c =
     let r : Graph = g.R.Source.graph c.args.problem.now.room.now in
     let lv = lowest_unit c.sweep.invariant (let l : 0 < c.sweep.changed = omega arith in l) in
     let cl = class_is a r c.args.rows.now c.requires lv.0 c.column-from.ensures c.row-to.ensures c.class_of-units.ensures in
-    let s = shape_of a r c.loop-joined.rows c.loop-joined.invariant.thin.shape in
-    record { within = λ u t. omega (arith, cl.below u t, s.many); below = s.rest; few = omega (arith, c.loop-joined.invariant.thin.small) }
+    let s = shape_of a r c.loop-class.rows c.loop-class.invariant.thin.shape in
+    record { within = λ u t. omega (arith, cl.below u t, s.many); below = s.rest; few = omega (arith, c.loop-class.invariant.thin.small) }
 
 pub overflow_add-taken : goal.overflow_add-taken
-overflow_add-taken g c = omega (arith, c.loop-joined.invariant.thin.small, c.cut_class-cut.ensures.counted)
+overflow_add-taken g c = omega (arith, c.loop-class.invariant.thin.small, c.cut_class-cut.ensures.counted)
 
-pub loop-joined-preserved : goal.loop-joined-preserved
-loop-joined-preserved g c =
+pub loop-class-preserved : goal.loop-class-preserved
+loop-class-preserved g c =
     let a : Graph = g.A.Source.graph c.args.problem.now.arrangement.now in
     let r : Graph = g.R.Source.graph c.args.problem.now.room.now in
     let lv = lowest_unit c.sweep.invariant (let l : 0 < c.sweep.changed = omega arith in l) in
     let cl = class_is a r c.args.rows.now c.requires lv.0 c.column-from.ensures c.row-to.ensures c.class_of-units.ensures in
-    turn_more (g.R.Source.sound c.args.problem.now.room.now).few lv.0 c.loop-joined.invariant cl c.cut_class-cut.auto.rows c.cut_class-cut.ensures c.if-cut.false
+    turn_more (g.R.Source.sound c.args.problem.now.room.now).few lv.0 c.loop-class.invariant cl c.cut_class-cut.auto.rows c.cut_class-cut.ensures c.if-cut.false
 
 pub clear-requires-2 : goal.clear-requires-2
-clear-requires-2 g c = omega (arith, c.loop-joined.invariant.thin.small, c.cut_class-cut.ensures.counted)
+clear-requires-2 g c = omega (arith, c.loop-class.invariant.thin.small, c.cut_class-cut.ensures.counted)
 
 pub overflow_add-result : goal.overflow_add-result
-overflow_add-result g c = omega (arith, c.loop-joined.invariant.thin.small, c.cut_class-cut.ensures.counted, c.clear-2.ensures.taken)
+overflow_add-result g c = omega (arith, c.loop-class.invariant.thin.small, c.cut_class-cut.ensures.counted, c.clear-2.ensures.taken)
 
 pub returns : goal.returns
 returns g c =
@@ -71,7 +70,7 @@ returns g c =
     let r : Graph = g.R.Source.graph c.args.problem.now.room.now in
     let lv = lowest_unit c.sweep.invariant (let l : 0 < c.sweep.changed = omega arith in l) in
     let cl = class_is a r c.args.rows.now c.requires lv.0 c.column-from.ensures c.row-to.ensures c.class_of-units.ensures in
-    let t = turn_all (g.R.Source.sound c.args.problem.now.room.now).few lv.0 c.loop-joined.invariant cl c.cut_class-cut.auto.rows c.cut_class-cut.ensures c.sweep.invariant.thin in
-    let h = cleared a r c.args.problem.now.strict c.args.rows.now c.cut_class-cut.new.rows c.clear-2.new.rows (c.loop-joined.taken + c.cut_class-cut.result.taken) c.clear-2.result c.requires t
+    let t = turn_all (g.R.Source.sound c.args.problem.now.room.now).few lv.0 c.loop-class.invariant cl c.cut_class-cut.auto.rows c.cut_class-cut.ensures c.sweep.invariant.thin in
+    let h = cleared a r c.args.problem.now.strict c.args.rows.now c.cut_class-cut.new.rows c.clear-2.new.rows (c.loop-class.taken + c.cut_class-cut.result.taken) c.clear-2.result c.requires t
     (c.cut_class-cut.ensures.emptied c.if-cut.true) c.clear-2.ensures.rows c.clear-2.ensures.taken in
     record { taken = h.taken; greatest = λ p. h.greatest }

@@ -3,10 +3,10 @@ use Rattle.filters.specs.Filter.{pair_count}
 use Rattle.consistency.proofs.Turns.{Turned, Sweeping}
 use Rattle.consistency.proofs.settle.Given as goal
 
-abbrev pub invariant-loop-joined : goal.invariant-loop-joined
-invariant-loop-joined g l =
+abbrev pub invariant-loop-class : goal.invariant-loop-class
+invariant-loop-class g l =
     Turned (g.A.Source.graph l.problem.arrangement.now) (g.R.Source.graph l.problem.room.now) l.problem.strict l.v
-    l.initial.rows l.initial.changed l.initial.taken l.rows l.changed l.taken l.joined-index
+    l.initial.rows l.initial.changed l.initial.taken l.rows l.changed l.taken l.class
 
 abbrev pub invariant-sweep : goal.invariant-sweep
 invariant-sweep g l =

@@ -1,40 +1,36 @@
-use Rattle.std.proofs.Common.{◌≡◌, ℕ, ◌-◌, ◌<◌, Bool, true, false, not, ◌&&◌, ◌||◌, leb, sym, ap, ap₂, ◌∙◌, refl, subst, arith}
-use lib.Bits.{bit_and}
-use Rattle.graphs.specs.Rows.{bit}
+use Rattle.std.proofs.Common.{◌≡◌, ℕ, ◌-◌, Bool, true, false, not, ◌&&◌, ◌||◌, leb, List, get_or, sym, ap, ap₂, ◌∙◌, refl, arith}
 use Rattle.graphs.specs.Graph.{Graph}
 use Rattle.graphs.proofs.Bits.{bit_of_and}
-use Rattle.degree.specs.Degree.{degree_within, all_nodes, degree_test}
+use Rattle.degree.specs.Degree.{degree_within, all_nodes}
+use Rattle.degree.specs.Degrees.{at_least_is, apart_is}
 use Rattle.degree.proofs.thin.enough.Goals as goal
 
 pub returns-then-problem : goal.returns-then-problem
 returns-then-problem g c b l =
     let a : Graph = g.A.Source.graph c.args.problem.now.arrangement.now in
-    let many : ℕ = c.at_least-many.result in
-    let apart : ℕ = c.apart_from.result in
+    let r : Graph = g.R.Source.graph c.args.problem.now.room.now in
+    let s = g.R.Source.sound c.args.problem.now.room.now in
+    let few = (g.A.Source.sound c.args.problem.now.arrangement.now).few in
     let d : ℕ = degree_within a all_nodes c.args.u in
-    subst (λ (r : Graph). b < r.count → bit (bit_and many apart) b ≡ degree_test a r c.args.problem.now.strict c.args.u b) (ap g.R.Source.graph c.requires)
-    (λ lb.
-    let r : Graph = g.R.Source.graph c.args.bays.now.room.now in
     let e : ℕ = degree_within r all_nodes b in
-    bit_of_and many apart b
-    ∙ ap₂ (λ (s t : Bool). s && t)
-    (c.at_least-many.ensures b lb ∙ ap (λ (j : ℕ). leb j e) c.degree_of-joints.ensures.degree)
-    (c.apart_from.ensures b lb ∙ ap (λ (z : ℕ). leb z (r.count - 1 - e)) (let z : c.count.result - 1 - c.degree_of-joints.result ≡ a.count - 1 - d = omega (arith, c.count.ensures, c.degree_of-joints.ensures.degree) in z))
-    ∙ sym (ap (λ (s : Bool). leb d e && (not s || leb (a.count - 1 - d) (r.count - 1 - e))) c.if-problem.true))
-    l
+    let fewer : List ℕ = c.args.fewer.now in
+    let joints = c.degree_of-joints.ensures in
+    bit_of_and (18446744073709551615 - get_or fewer c.degree_of-joints.result 0) (get_or fewer c.saturating_sub.result 0) b
+    ∙ ap₂ (λ (p q : Bool). p && q)
+    (at_least_is r b l s fewer c.requires c.degree_of-joints.result d joints.degree (omega (arith, few, joints.below)))
+    (apart_is r b l s fewer c.requires c.saturating_sub.result (a.count - 1 - d) (omega (arith, joints.degree, c.count.ensures, c.count-then-problem.ensures, c.saturating_sub.ensures)))
+    ∙ sym (ap (λ (p : Bool). leb d e && (not p || leb (a.count - 1 - d) (r.count - 1 - e))) c.if-problem.true)
 
 pub returns-else-problem : goal.returns-else-problem
 returns-else-problem g c b l =
     let a : Graph = g.A.Source.graph c.args.problem.now.arrangement.now in
-    let many : ℕ = c.at_least-many.result in
+    let r : Graph = g.R.Source.graph c.args.problem.now.room.now in
+    let few = (g.A.Source.sound c.args.problem.now.arrangement.now).few in
     let d : ℕ = degree_within a all_nodes c.args.u in
-    subst (λ (r : Graph). b < r.count → bit many b ≡ degree_test a r c.args.problem.now.strict c.args.u b) (ap g.R.Source.graph c.requires)
-    (λ lb.
-    let r : Graph = g.R.Source.graph c.args.bays.now.room.now in
     let e : ℕ = degree_within r all_nodes b in
-    c.at_least-many.ensures b lb ∙ ap (λ (j : ℕ). leb j e) c.degree_of-joints.ensures.degree
-    ∙ sym (ap (λ (s : Bool). leb d e && (not s || leb (a.count - 1 - d) (r.count - 1 - e))) c.if-problem.false ∙ and_true (leb d e)))
-    l
+    let joints = c.degree_of-joints.ensures in
+    at_least_is r b l (g.R.Source.sound c.args.problem.now.room.now) c.args.fewer.now c.requires c.degree_of-joints.result d joints.degree (omega (arith, few, joints.below))
+    ∙ sym (ap (λ (p : Bool). leb d e && (not p || leb (a.count - 1 - d) (r.count - 1 - e))) c.if-problem.false ∙ and_true (leb d e))
   where
     and_true : (t : Bool) → (t && true) ≡ t
     and_true true = refl
