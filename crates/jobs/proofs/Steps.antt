@@ -83,15 +83,9 @@ module _ (input : List ℕ) where
   read_fails : (e : JobFault) → parts input 0 ≡ Err e → Err e ≡ read_job input
   read_fails e h = sym (ap (λ r. and_then {Y = JobForm} r (λ p. Ok p.0)) (turned_fails parts input 0 formed h))
 
-  pub head_fails : (e : JobFault) → Err e ≡ head_part input 0 → Err e ≡ read_job input
-  head_fails e h = read_fails e (after_fails head_part (λ _. after joints_part room_part) input 0 (sym h))
-
   module _ (head : Mode × Edition) (h : Ok (head, 3) ≡ head_part input 0) where
     tables_fail : (e : JobFault) → after joints_part room_part input 3 ≡ Err e → Err e ≡ read_job input
     tables_fail e t = read_fails e (then_fails head_part (λ _. after joints_part room_part) input 0 (sym h) t)
-
-    pub arrangement_fails : (e : JobFault) → Err e ≡ joints_part input 3 → Err e ≡ read_job input
-    arrangement_fails e t = tables_fail e (after_fails joints_part room_part input 3 (sym t))
 
     module _ (a : Form) (room_at : ℕ) (ha : Ok (a, room_at) ≡ joints_part input 3) where
       pub room_fails : (e : JobFault) → Err e ≡ joints_part input room_at → Err e ≡ read_job input

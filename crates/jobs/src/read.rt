@@ -85,6 +85,7 @@ fn sizes_match(struck: &Table, units: usize, bays: usize) -> bool
 }
 
 // The job that the whole input holds.
+#[tactic(auto, using(crate::proofs::Jobs::job_exact))]
 pub fn read_job(input: &[u8]) -> Result<Job, JobFault>
     ensures value { seen result ≡ read_job input.now }
     ensures lawful { IfOk result (λ j. JobLawful (view j)) }

@@ -1,7 +1,7 @@
 -- Reading a saved plan, step by step. Assumes nothing.
 use Rattle.std.proofs.Common.{◌≡◌, ℕ, ◌+◌, ◌<◌, ◌≤◌, true, false, cond, eqb, ltb, List, length, get_or, take, drop, Ok, Err, Result, sym, ap, ◌∙◌, arith, length-drop}
 use Rattle.std.proofs.lemmas.List.{get_or-take, get_or-drop}
-use Rattle.std.proofs.lemmas.Bool.{cond-false, cond-true, eq-eqb, ne_eqb, le-ltb, lt-ltb}
+use Rattle.std.proofs.lemmas.Bool.{cond-false, cond-true, eq-eqb, le-ltb, lt-ltb}
 use Rattle.tables.specs.declared.fault.TableFault.{TableFault}
 use Rattle.tables.specs.Form.{Form}
 use Rattle.tables.specs.Parts.{and_then}
@@ -31,11 +31,6 @@ module _ (input : List ℕ) where
   taken r = ended (and_then {Y = Body} r (λ p. and_then {Y = Body} (struck_part input p.1) (λ q. Ok ((p.0, q.0), q.1))))
 
   module _ (at : ℕ) where
-    pub plan_ended : length input ≤ at → Err (P.Ended (length input)) ≡ read_plan input at
-    plan_ended h =
-        ap taken (sym (ap (λ r. and_then {Y = List ℕ × ℕ} r (λ p. cond (eqb (get_or p.0 0 0) 2) (Ok p) (Err (P.Form at))))
-        (cond-true (ltb (length (drop at input)) 1) _ _ (lt-ltb (length (drop at input)) 1 (omega (arith, length-drop at input))))))
-
     -- what was found at the place
     module _ (form : ℕ) (found : (at < length input) × ((d : ℕ) → form ≡ get_or input at d)) where
       byte_is : get_or (take 1 (drop at input)) 0 0 ≡ get_or input at 0
@@ -47,9 +42,6 @@ module _ (input : List ℕ) where
           (cond-false (ltb (length (drop at input)) 1) _ _ (le-ltb (length (drop at input)) 1 (omega (arith, found.0, length-drop at input))))
           ∙ ap (λ b. cond (eqb b 2) (Ok (take 1 (drop at input), at + 1)) (Err (P.Form at))) byte_is
 
-      pub plan_form : (form ≡ 2 → ⊥) → Err (P.Form at) ≡ read_plan input at
-      plan_form ne = ap taken (sym (form_is ∙ cond-false (eqb (get_or input at 0) 2) _ _ (ne_eqb (get_or input at 0) 2 (λ e. ne (found.1 0 ∙ e)))))
-
       module _ (two : form ≡ 2) where
         form_here : form_part input at ≡ Ok (take 1 (drop at input), at + 1)
         form_here = form_is ∙ cond-true (eqb (get_or input at 0) 2) _ _ (eq-eqb (get_or input at 0) 2 (sym (found.1 0) ∙ two))
@@ -60,9 +52,6 @@ module _ (input : List ℕ) where
         -- a table's answer as the plan's
         here : (r : Result (Form × ℕ) TableFault) → r ≡ read_table input (at + 1) → behind (take 1 (drop at input)) (struck r) ≡ read_plan input at
         here r h = ap (λ t. behind (take 1 (drop at input)) (struck t)) h ∙ sym (ap taken form_here)
-
-        pub plan_table : (e : TableFault) → Err e ≡ read_table input (at + 1) → Err (P.Table e) ≡ read_plan input at
-        plan_table e h = here (Err e) h
 
         module _ (f : Form) (next : ℕ) (h : Ok (f, next) ≡ read_table input (at + 1)) where
           pub plan_sizes : sized f ≡ false → Err (P.Sizes (at + 1)) ≡ read_plan input at

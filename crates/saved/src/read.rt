@@ -15,6 +15,7 @@ fn sizes_fit(table: &Table) -> bool
 }
 
 // The struck pairs of the plan that is saved from the place `at` to the end of the input.
+#[tactic(auto, using(crate::proofs::Plans::plan_exact))]
 pub fn read_plan(input: &[u8], at: usize) -> Result<Table, PlanFault>
     ensures value { seen result ≡ read_plan input.now at }
     ensures exact { Exact PlanLawful Nothing plan_part plan_bytes }

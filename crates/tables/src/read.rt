@@ -112,6 +112,7 @@ fn read_part(mut part: Part) -> Result<(Table, usize), TableFault>
 }
 
 // The table from the place `at` on, and the place behind it.
+#[tactic(auto, using(crate::proofs::Tables::table_exact))]
 pub fn read_table(input: &[u8], at: usize) -> Result<(Table, usize), TableFault>
     ensures value { seen result ≡ read_table input.now at }
     ensures within { IfOk result (λ p. p.1 ≤ length input.now) }
