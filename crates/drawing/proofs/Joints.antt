@@ -7,7 +7,7 @@ use Rattle.std.proofs.lemmas.Bool.{cases_Bool, cases_eq, cases_lt, lt-ltb, ltb-t
 use Rattle.graphs.specs.Rows.{bit, pairs}
 use Rattle.graphs.specs.JointTable.{TableLawful}
 use Rattle.graphs.proofs.Bits.{bit_none, bits_below}
-use Rattle.graphs.proofs.Walls.{put_on}
+use Rattle.graphs.proofs.Rows.{put_on}
 use Rattle.drawing.specs.Joints.{joins}
 
 -- the rows with the joint from a to b
