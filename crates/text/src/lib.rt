@@ -1,7 +1,8 @@
 // Text written into a buffer of bytes.
 #![tactic(auto)]
 
-ghost use Rattle.std.specs.Prelude.{◌≡◌, ◌≤◌, length, decimal};
+ghost use Rattle.std.specs.Prelude.{◌≡◌, decimal};
+ghost use Rattle.text.specs.Put.{Put};
 
 use itoa::Buffer;
 
@@ -13,12 +14,9 @@ mod tests;
 pub struct Text<'a> {
     pub out: &'a mut [u8],
     pub len: usize,
-    ghost inside: { len ≤ length out.now },
 }
 
 impl<'a> Text<'a> {
-    ghost use Rattle.text.specs.Put.{Put};
-
     // The text of no bytes.
     pub fn new(out: &'a mut [u8]) -> Text<'a>
         ensures same { result.out.ghost_name ≡ out.entry.ghost_name }
@@ -32,7 +30,8 @@ impl<'a> Text<'a> {
     pub fn put(&mut self, bytes: &[u8]) -> Option<()>
         ensures { Put bytes.now self.old self.new result }
     {
-        if bytes.len() > self.out.len() - self.len {
+        let room = self.out.len().checked_sub(self.len)?;
+        if bytes.len() > room {
             return None;
         }
         let end = self.len + bytes.len();

@@ -4,5 +4,5 @@ use Rattle.text.proofs.Text.put.Goals as goal
 
 pub returns : goal.returns
 returns c =
-    let room : c.args.self.now.len + length c.args.bytes.now ≤ length c.args.self.now.out.now = omega (arith, c.if-bytes-self.false) in
+    let room : c.args.self.now.len + length c.args.bytes.now ≤ length c.args.self.now.out.now = search arith in
     record { cases = (room, record { place = refl; after = lay_part _ _ _ _ room c.copy_from_slice.ensures.after; same = refl }) }
