@@ -96,6 +96,7 @@ impl Family {
         let drawn = self.room(alloc, number)?;
         let arrangement = &JointTable::new(drawn.units.rows(), drawn.units.count);
         let strict = self.strict;
+        // The sources are of two types, so each has its call.
         match self.bays {
             Shape::Wall { columns, levels } => {
                 let room = &WallGrid::new(columns, levels);

@@ -36,7 +36,8 @@ pub trait Book {
     }
 }
 
-// The rows of the pairs whose cards suit by the book: of the first 24 unit cards and the first 64 bay cards.
+// The rows of the pairs whose cards suit by the book: of the first 24 unit cards and the first 64 bay cards. A struct of a book and
+// its cards would be made for this one call, and taken apart in it.
 pub fn suited_rows<B: Book>(book: &B, units: &[B::UnitCard], bays: &[B::BayCard]) -> [u64; 24]
     ensures { (u b : ℕ) → pairs result u b ≡ (nat_lt u 24 && (nat_lt b 64 && (handed (B.Book.suiting book.now) units.now bays.now).suits u b)) }
 {

@@ -25,6 +25,7 @@ fn with_joints<S: Source>(source: &S) -> [u64; 65]
     ensures { (k : ℕ) → k < 65 → slice_index result k ≡ row_of (S.Source.graph source.now).count (λ b. nat_eq (degree_within (S.Source.graph source.now) all_nodes b + 1) k) }
 {
     let mut rows = [0u64; 65];
+    // A source has nodes by number, and no slice to go over.
     for b in 0..source.count() {
         rows[degree_of(source, b) + 1] |= 1 << b;
     }

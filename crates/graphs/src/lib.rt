@@ -88,6 +88,7 @@ fn row_where<P: Fn(usize) -> bool>(count: usize, passes: P) -> u64
     ensures { (p : ℕ → Bool) → ((b : ℕ) (t : Bool) → b < count → P.post passes b t → t ≡ p b) → result ≡ row_of count p }
 {
     let mut row: u64 = 0;
+    // Nodes are numbers here: there is no slice to go over.
     for b in 0..count {
         if passes(b) {
             row |= 1 << b;

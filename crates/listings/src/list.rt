@@ -45,6 +45,7 @@ pub(crate) fn write_listing(text: &mut Text, mut plan: Plan, job: &Job) -> Optio
     };
     let units = job.struck.rows().len();
     let mut bays = [0; 24];
+    // Whether `bays` holds a placement that is not listed yet; a call of the plan that declines leaves the old one there.
     let mut found = plan.seek(&problem, &filter, &mut bays).is_ok();
     for _listed in 0..MOST {
         if !found {

@@ -25,6 +25,7 @@ fn fit_plan(plan: &mut Plan, job: &Job) -> Result<(), Refusal>
         height: heights.get(b).copied().unwrap_or(0),
     });
     let (units, bays) = (&units[..kinds.len()], &bays[..heights.len()]);
+    // The editions are two types, so each has its call.
     match job.edition {
         Edition::One => plan.fit(&Clearance(EditionOne), units, bays),
         Edition::Two => plan.fit(&Clearance(EditionTwo), units, bays),

@@ -7,7 +7,7 @@ ghost use Rattle.listings_c.specs.Answer.{Declined, Answered};
 
 use refusals::Reason;
 
-// What a job call answers: 0 and the length of the text, or the number of the refusal and no text.
+// What a job call answers: 0 and the length of the text, or the number of the refusal and no text. Numbers, since C has no Result.
 #[derive(Clone, Copy)]
 #[repr(C)]
 pub struct JobAnswer {

@@ -102,6 +102,7 @@ impl<'a, A: Source, R: Source> Problem<'a, A, R> {
         if bays.len() != self.arrangement.count() {
             return false;
         }
+        // By number, since the test of a unit reads the bays of all units.
         for u in 0..bays.len() {
             if !self.suits(bays, u) {
                 return false;

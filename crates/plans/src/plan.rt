@@ -7,7 +7,7 @@ pub mod calls;
 pub mod searches;
 
 // Its sizes, the struck pairs, the fitted pairs where there is a fit, and the last answer where there is one; rows past the units
-// and bits past the bays are zero.
+// and bits past the bays are zero. Rows and bays lie in arrays of fixed length, since the library has no heap.
 #[derive(Drop)]
 pub struct Plan {
     units: usize,

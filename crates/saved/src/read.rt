@@ -14,7 +14,8 @@ fn sizes_fit(table: &Table) -> bool
     (1..=24).contains(&table.rows().len()) && (1..=64).contains(&table.columns())
 }
 
-// The struck pairs of the plan that is saved from the place `at` to the end of the input.
+// The struck pairs of the plan that is saved from the place `at` to the end of the input. It takes the whole input, since faults tell
+// offsets in it.
 #[tactic(auto, using(crate::proofs::Plans::plan_exact))]
 pub fn read_plan(input: &[u8], at: usize) -> Result<Table, PlanFault>
     ensures value { seen result ≡ read_plan input.now at }

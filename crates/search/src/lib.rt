@@ -15,7 +15,8 @@ use filters::{Filter, well_shaped};
 use graphs::{Source, holds, nodes};
 use placements::{Joined, Problem};
 
-// The placement found, the bay of each unit in order and zeros behind, and the tries that it took.
+// The placement found, the bay of each unit in order and zeros behind (an array, since the library has no heap), and the tries that it
+// took.
 #[derive(Clone, Copy, Debug)]
 pub struct Find {
     pub bays: [u8; 24],
@@ -204,7 +205,7 @@ impl<'a, A: Source, R: Source, F: Filter> Walk<'a, A, R, F> {
     }
 }
 
-// The first placement within the rows in dictionary order.
+// The first placement within the rows in dictionary order. The filter is no part of the problem: any lawful one finds the same.
 pub fn first<A: Source, R: Source, F: Filter>(
     problem: &Problem<A, R>,
     filter: &F,

@@ -31,6 +31,7 @@ impl<'a> JointTable<'a> {
         if rows.len() != columns || columns < 1 || columns > 64 {
             return Err(JointFault { place: 0 });
         }
+        // By number, since the look-over of a row asks after the rows of other nodes.
         for a in 0..columns {
             look_over_row(rows, a)?;
         }

@@ -64,6 +64,7 @@ pub struct WallGrid {
 }
 
 impl WallGrid {
+    // Two numbers, as a caller has them; once looked over they are an extent.
     pub fn look_over(columns: usize, levels: usize) -> Result<(), JointFault>
         ensures { LookedOver result (WallLawful columns levels) }
     {

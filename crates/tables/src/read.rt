@@ -111,7 +111,7 @@ fn read_part(mut part: Part) -> Result<(Table, usize), TableFault>
     read_map(part, Counts { rows, columns })
 }
 
-// The table from the place `at` on, and the place behind it.
+// The table from the place `at` on, and the place behind it. It takes the whole input, since faults tell offsets in it.
 #[tactic(auto, using(crate::proofs::Tables::table_exact))]
 pub fn read_table(input: &[u8], at: usize) -> Result<(Table, usize), TableFault>
     ensures value { seen result ≡ read_table input.now at }
