@@ -47,8 +47,8 @@ fn one_way_suits(units: bool, bays: bool, strict: bool) -> bool
     if units { bays } else { !(strict & bays) }
 }
 
-impl<'a, A: Source, R: Source> Problem<'a, A, R> {
-    // The bays for one unit that agree with the bay `c` of another.
+impl<'a, A, R: Source> Problem<'a, A, R> {
+    // The bays for one unit that agree with the bay `c` of another. Nothing is asked of the arrangement here: it may be `&()`.
     pub fn agreeing(&self, joined: Joined, c: usize) -> u64
         ensures { result ≡ row_of (R.Source.graph self.now.room.now).count (λ b. agrees_if (R.Source.graph self.now.room.now) joined.out joined.back self.now.strict b c) }
     {
@@ -58,7 +58,9 @@ impl<'a, A: Source, R: Source> Problem<'a, A, R> {
         let back = one_way(self.room.row(c), joined.back, self.strict);
         others & out & back
     }
+}
 
+impl<'a, A: Source, R: Source> Problem<'a, A, R> {
     // Whether the pairs (u, b) and (v, c) of two different units agree.
     fn agree(&self, u: usize, b: usize, v: usize, c: usize) -> bool
         ensures { result ≡ agrees (A.Source.graph self.now.arrangement.now) (R.Source.graph self.now.room.now) self.now.strict u b v c }
