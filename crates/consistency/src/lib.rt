@@ -24,7 +24,7 @@ pub fn rooms_worked() -> usize
 }
 
 // The bays that differ from some bay of the row: all where it has two, all but that one where it has one.
-fn differing<A: Source, R: Source>(problem: &Problem<A, R>, row: u64) -> u64
+fn differing<A, R: Source>(problem: &Problem<A, R>, row: u64) -> u64
     ensures { result ≡ row_of (R.Source.graph problem.now.room.now).count (λ b. any_of row (R.Source.graph problem.now.room.now).count (agrees_if (R.Source.graph problem.now.room.now) false false false b)) }
 {
     let all = u64::MAX >> (64 - problem.room.count());
@@ -39,12 +39,7 @@ fn differing<A: Source, R: Source>(problem: &Problem<A, R>, row: u64) -> u64
 }
 
 // The bays of the row that agree with some bay of the other row.
-pub fn revise<A: Source, R: Source>(
-    problem: &Problem<A, R>,
-    joined: Joined,
-    row: u64,
-    other: u64,
-) -> u64
+pub fn revise<A, R: Source>(problem: &Problem<A, R>, joined: Joined, row: u64, other: u64) -> u64
     ensures { result ≡ revised (R.Source.graph problem.now.room.now) joined.out joined.back problem.now.strict row other }
 {
     if !(joined.out | joined.back | problem.strict) {
@@ -111,7 +106,7 @@ fn class_of(others: u64, from: u64, to: u64, joined: Joined) -> u64
 }
 
 // Leaves in the rows of the units of one class only the bays that agree with some bay of the other row.
-fn cut_class<A: Source, R: Source>(
+fn cut_class<A, R: Source>(
     problem: &Problem<A, R>,
     joined: Joined,
     units: u64,

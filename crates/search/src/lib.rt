@@ -48,7 +48,7 @@ struct Walk<'a, A, R, F> {
 
 impl Masks {
     // The joints are read from the other unit.
-    fn new<A: Source, R: Source>(problem: &Problem<A, R>, b: usize) -> Masks
+    fn new<A, R: Source>(problem: &Problem<A, R>, b: usize) -> Masks
         ensures { (out back : Bool) → picked result out back ≡ row_of (R.Source.graph problem.now.room.now).count (λ c. agrees_if (R.Source.graph problem.now.room.now) out back problem.now.strict b c) }
     {
         let mask = |out, back| problem.agreeing(Joined { out, back }, b);
