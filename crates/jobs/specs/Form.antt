@@ -1,7 +1,6 @@
 -- What a job holds, when it is lawful, and its bytes. Assumes nothing.
 use Rattle.std.specs.Prelude.{◌≡◌, ℕ, zero, suc, ◌^◌, ◌<◌, List, [], ◌∷◌, ◌++◌, length, take, drop, slice_index}
 use Rattle.graphs.specs.JointTable.{TableLawful}
-use Rattle.tables.specs.declared.table.Table.{Table}
 use Rattle.tables.specs.Bytes.{Bytes, bytes_of, from_bytes}
 use Rattle.tables.specs.Form as table
 use Rattle.tables.specs.Form.{Form}
@@ -9,6 +8,7 @@ use Rattle.tables.specs.Written.{table_bytes}
 use Rattle.saved.specs.Plan.{PlanLawful, plan_bytes}
 use Rattle.jobs.specs.declared.head.Mode.{Mode}
 use Rattle.jobs.specs.declared.head.Edition.{Edition}
+use Rattle.jobs.specs.declared.job.Job.{Job}
 use Rattle.jobs.specs.Head.{mode_byte, edition_number}
 
 -- the sort of use, the clearance book's edition, two joint tables, a kind a unit, a height a bay, and the struck pairs
@@ -71,14 +71,14 @@ job_bytes j =
     ++ ((j.kinds ++ heights_bytes j.heights)
     ++ plan_bytes j.struck)))
 
--- what the parts of a job say: a kind for each row of the arrangement and a height for each row of the room
-abbrev pub form_of : Mode → Edition → Table → Table → List ℕ → List ℕ → Table → JobForm
-form_of mode edition arrangement room kinds heights struck = record {
-  mode = mode;
-  edition = edition;
-  arrangement = table.view arrangement;
-  room = table.view room;
-  kinds = take (length (table.view arrangement).rows) kinds;
-  heights = take (length (table.view room).rows) heights;
-  struck = table.view struck;
+-- what the type holds: a kind for each row of the arrangement and a height for each row of the room
+abbrev pub view : Job → JobForm
+view j = record {
+  mode = j.mode;
+  edition = j.edition;
+  arrangement = table.view j.arrangement;
+  room = table.view j.room;
+  kinds = take (length (table.view j.arrangement).rows) j.kinds;
+  heights = take (length (table.view j.room).rows) j.heights;
+  struck = table.view j.struck;
 }

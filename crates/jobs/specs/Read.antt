@@ -13,8 +13,7 @@ use Rattle.jobs.specs.declared.head.Edition.{Edition}
 use Rattle.jobs.specs.declared.job.Job.{Job}
 use Rattle.jobs.specs.Joints.{joint_test}
 use Rattle.jobs.specs.Head.{known_mode, mode_of, known_edition, edition_of}
-use Rattle.jobs.specs.Form.{JobForm, heights_of}
-use Rattle.jobs.specs.Held.{view}
+use Rattle.jobs.specs.Form.{JobForm, heights_of, view}
 
 -- one byte for the sort of use
 abbrev pub mode_part : Reader Mode JobFault

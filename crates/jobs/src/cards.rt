@@ -1,6 +1,6 @@
 // The cards of a job, one a unit and one a bay.
 ghost use Rattle.std.specs.Prelude.{◌≡◌};
-ghost use Rattle.jobs.specs.Held.{view};
+ghost use Rattle.jobs.specs.Form.{view};
 
 use crate::job::Job;
 

@@ -1,9 +1,7 @@
-ghost use Rattle.jobs.specs.Form.{JobLawful, form_of};
-
 use crate::head::{Edition, Mode};
 use tables::Table;
 
-// What a lawful job's bytes hold. The kinds and heights lie in arrays of fixed length, since the library has no heap; of the kinds one
+// What a job's bytes hold. The kinds and heights lie in arrays of fixed length, since the library has no heap; of the kinds one
 // counts for each row of the arrangement, of the heights one for each row of the room.
 #[derive(Clone, Copy)]
 pub struct Job {
@@ -16,5 +14,4 @@ pub struct Job {
     // The struck pairs of the saved plan, and the place of its first byte.
     pub struck: Table,
     pub plan_at: usize,
-    ghost lawful: { JobLawful (form_of mode edition arrangement room kinds heights struck) },
 }

@@ -4,8 +4,7 @@ ghost use Rattle.tables.specs.Form.{view as view_table};
 ghost use Rattle.tables.specs.Parts.{Nothing, Exact};
 ghost use Rattle.tables.specs.Read.{seen as seen_table};
 ghost use Rattle.saved.specs.Plan.{plan_bytes};
-ghost use Rattle.jobs.specs.Form.{JobLawful, job_bytes};
-ghost use Rattle.jobs.specs.Held.{view};
+ghost use Rattle.jobs.specs.Form.{JobLawful, job_bytes, view};
 ghost use Rattle.jobs.specs.Read.{up_to, front, head_part, joints_part, kinds_part, heights_part, same_sizes, job_part, read_job, seen};
 
 use crate::fault::JobFault;

@@ -2,6 +2,7 @@
 ghost use Rattle.std.specs.Prelude.{◌≡◌, ◌<◌, ◌≤◌, length, IfOk};
 ghost use Rattle.listings.specs.JobText.{WritesJob, Declined, Answered, OneText};
 
+use crate::lawful::LawfulJob;
 use crate::list::write_listing;
 use crate::plan::fitted_plan;
 use crate::put::write_refusal;
@@ -20,8 +21,9 @@ fn write_job(text: &mut Text, input: &[u8]) -> Option<()>
     match read_job(input) {
         Ok(job) => {
             let plan_at = job.plan_at;
-            let plan = fitted_plan(&job, &input[plan_at..]);
-            write_listing(text, plan, &job)
+            let lawful = LawfulJob { job: &job };
+            let plan = fitted_plan(&lawful, &input[plan_at..]);
+            write_listing(text, plan, &lawful)
         }
         Err(fault) => write_refusal(text, fault.into()),
     }

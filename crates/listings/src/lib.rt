@@ -2,6 +2,7 @@
 #![tactic(auto)]
 
 mod call;
+mod lawful;
 mod list;
 mod plan;
 mod put;

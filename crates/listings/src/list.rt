@@ -1,16 +1,16 @@
 // Lists the placements of a job.
 ghost use Rattle.std.specs.Prelude.{◌≡◌, if◌then◌else◌, None, codes};
 ghost use Rattle.plans.specs.Step.{view as held};
-ghost use Rattle.jobs.specs.Held.{view as form};
+ghost use Rattle.jobs.specs.Form.{view as form};
 ghost use Rattle.listings.specs.Text.{Writes};
 ghost use Rattle.listings.specs.Fitted.{fitted_ledger};
 ghost use Rattle.listings.specs.JobText.{WritesListing};
 
+use crate::lawful::LawfulJob;
 use crate::put::write_line;
 use consistency::ArcConsistency;
 use degree::Degree;
 use filters::Then;
-use jobs::Job;
 use placements::Problem;
 use plans::plan::Plan;
 use sources::JointTable;
@@ -30,10 +30,11 @@ fn write_last(text: &mut Text, further: bool) -> Option<()>
     }
 }
 
-pub(crate) fn write_listing(text: &mut Text, mut plan: Plan, job: &Job) -> Option<()>
-    requires { held plan ≡ fitted_ledger (form job.now) None }
-    ensures { WritesListing (form job.now) text.old text.new result }
+pub(crate) fn write_listing(text: &mut Text, mut plan: Plan, lawful: &LawfulJob) -> Option<()>
+    requires { held plan ≡ fitted_ledger (form lawful.now.job.now) None }
+    ensures { WritesListing (form lawful.now.job.now) text.old text.new result }
 {
+    let job = lawful.job;
     let problem = Problem {
         arrangement: &JointTable::new(job.arrangement.rows(), job.arrangement.columns()),
         room: &JointTable::new(job.room.rows(), job.room.columns()),

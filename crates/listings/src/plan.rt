@@ -4,19 +4,21 @@ ghost use Rattle.saved.specs.Plan.{plan_bytes};
 ghost use Rattle.ledgers.specs.Calls.{fit};
 ghost use Rattle.plans.specs.Refused.{doing};
 ghost use Rattle.plans.specs.Step.{Step, turn, view as held};
-ghost use Rattle.jobs.specs.Held.{view as form};
+ghost use Rattle.jobs.specs.Form.{view as form};
 ghost use Rattle.listings.specs.Suited.{cards_of};
 ghost use Rattle.listings.specs.Fitted.{fitted_ledger};
 
+use crate::lawful::LawfulJob;
 use books::{Clearance, EditionOne, EditionTwo, HeightCard, KindCard};
-use jobs::{Edition, Job};
+use jobs::Edition;
 use plans::plan::Plan;
 use plans::refusal::Refusal;
 use std::array;
 
-fn fit_plan(plan: &mut Plan, job: &Job) -> Result<(), Refusal>
-    ensures { Step plan.old (turn (fit (cards_of (form job.now))) (doing result) []) plan.new }
+fn fit_plan(plan: &mut Plan, lawful: &LawfulJob) -> Result<(), Refusal>
+    ensures { Step plan.old (turn (fit (cards_of (form lawful.now.job.now))) (doing result) []) plan.new }
 {
+    let job = lawful.job;
     let (kinds, heights) = (job.kinds(), job.heights());
     let units: [KindCard; 64] = array::from_fn(|u| KindCard {
         kind: kinds.get(u).copied().unwrap_or(0),
@@ -33,15 +35,15 @@ fn fit_plan(plan: &mut Plan, job: &Job) -> Result<(), Refusal>
 }
 
 // The plan that is saved in `bytes`, fitted.
-pub(crate) fn fitted_plan(job: &Job, bytes: &[u8]) -> Plan
-    requires { bytes.now ≡ plan_bytes (form job.now).struck }
-    ensures { held result ≡ fitted_ledger (form job.now) None }
+pub(crate) fn fitted_plan(lawful: &LawfulJob, bytes: &[u8]) -> Plan
+    requires { bytes.now ≡ plan_bytes (form lawful.now.job.now).struck }
+    ensures { held result ≡ fitted_ledger (form lawful.now.job.now) None }
 {
     let mut plan = Plan::new();
     let Ok(()) = plan.open(bytes) else {
         unreachable()
     };
-    let Ok(()) = fit_plan(&mut plan, job) else {
+    let Ok(()) = fit_plan(&mut plan, lawful) else {
         unreachable()
     };
     plan

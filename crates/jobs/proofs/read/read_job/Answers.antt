@@ -37,14 +37,6 @@ returns-then-not-sizes_match-clause-value c =
     (ap length c.rows-units.ensures.value) (ap length c.rows-bays.ensures.value) _
     (sizes_fail _ _ _ _ _ c.in_ok-kinds.ensures.value _ c.in_ok-heights.ensures.value _ c.in_ok-struck.ensures.value (sym c.if-not-sizes_match.ensures))
 
-pub invariant_of-result : goal.invariant_of-result
-invariant_of-result c =
-    let value =
-    job_read c.args.input.now _ c.in_ok-mode.ensures _ _ c.in_ok-arrangement.ensures.value _ _ c.in_ok-room.ensures.value _ _
-    (ap length c.rows-units.ensures.value) (ap length c.rows-bays.ensures.value) c.in_ok-kinds.kinds c.in_ok-heights.heights _
-    c.in_ok-kinds.ensures.value c.in_ok-heights.ensures.value c.in_ok-struck.ensures.value (sym c.if-not-sizes_match.ensures) in
-    record { lawful = job_lawful c.args.input.now _ (λ i. omega (arith, c.type_inv.input i)) value }
-
 pub returns : goal.returns
 returns c =
     let bytes : Bytes c.args.input.now = λ i. omega (arith, c.type_inv.input i) in

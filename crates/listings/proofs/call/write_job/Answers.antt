@@ -10,7 +10,7 @@ returns-in-Ok-clause-job c =
     record {
       text = w.text;
       of_job = text_listed c.args.input.now _ _ c.in-Ok.ensures.value w.listed;
-      few = listing_short _ c.in-Ok.job.lawful _ w.listed;
+      few = listing_short _ c.in-Ok.ensures.lawful _ w.listed;
       writes = w.writes;
     }
 

@@ -1,6 +1,6 @@
 use Rattle.std.proofs.Common.{◌≡◌, ◌≤◌, true, refl, arith}
 use Rattle.std.proofs.lemmas.Bool.{both_ways}
-use Rattle.jobs.specs.Held.{view}
+use Rattle.jobs.specs.Form.{view}
 use Rattle.listings.proofs.Going.{seek_at, further_at}
 use Rattle.listings.proofs.Listing.{written_none, written_more, written_unfit, written_all}
 use Rattle.listings.proofs.Taking.{taken_as}
@@ -9,8 +9,8 @@ use Rattle.listings.proofs.list.write_listing.Goals.{else-loop-listed-test, then
 
 pub loop-listed-init : goal.loop-listed-init
 loop-listed-init c =
-    let j = view c.args.job.now in
-    let law = c.args.job.now.lawful in
+    let j = view c.args.lawful.now.job.now in
+    let law = c.args.lawful.now.lawful in
     let ea = taken_as j.arrangement _ _ _ law.arrangement c.rows.ensures.value c.columns.ensures c.new.ensures in
     let er = taken_as j.room _ _ _ law.room c.rows-2.ensures.value c.columns-2.ensures c.new-2.ensures in
     written_none (rw c.is_ok-found.ensures.value (seek_at j law _ ea er c.is_strict.ensures _ _ c.seek.result _ _ refl c.requires c.seek.ensures.step))
@@ -23,8 +23,8 @@ returns-in_err-write_line c =
 
 pub loop-listed-preserved : goal.loop-listed-preserved
 loop-listed-preserved c =
-    let j = view c.args.job.now in
-    let law = c.args.job.now.lawful in
+    let j = view c.args.lawful.now.job.now in
+    let law = c.args.lawful.now.lawful in
     let g = c.loop-listed.invariant in
     let ea = taken_as j.arrangement _ _ _ law.arrangement c.rows.ensures.value c.columns.ensures c.new.ensures in
     let er = taken_as j.room _ _ _ law.room c.rows-2.ensures.value c.columns-2.ensures c.new-2.ensures in
