@@ -1,5 +1,5 @@
 -- The work list: units whose rows the others must still be checked against. Assumes nothing.
-use Rattle.std.proofs.Common.{◌≡◌, ℕ, zero, suc, ◌+◌, ◌-◌, ◌*◌, ◌/◌, ◌%◌, ◌^◌, ◌<◌, ◌≤◌, Bool, true, false, cond, not, ◌&&◌, eqb, ltb, List, [], ◌∷◌, Option, Some, None, length, get_or, replicate, sym, refl, ap, ◌∙◌, subst, inl, inr, arith, pow_mono}
+use Rattle.std.proofs.Common.{◌≡◌, ℕ, ◌+◌, ◌-◌, ◌*◌, ◌/◌, ◌%◌, ◌^◌, ◌<◌, ◌≤◌, Bool, true, false, cond, not, ◌&&◌, eqb, ltb, List, Option, Some, None, length, get_or, replicate, sym, refl, ap, ◌∙◌, subst, inl, inr, arith, pow_mono}
 use lib.Bits.{bit_and, bit_or, and_le_r, or_zero_r}
 use lib.Count.{count_trailing_zeros}
 use Rattle.std.proofs.lemmas.Option.{MatchOption-at_some, MatchOption-at_none}
@@ -10,10 +10,10 @@ use Rattle.graphs.proofs.Bits.{bit_none, bit_of_or, bit_lowest, bits_below}
 use Rattle.graphs.proofs.Rows.{bit_row_of}
 use Rattle.placements.specs.Agreement.{agrees_if, agrees}
 use Rattle.placements.proofs.Masks.{bit_full, others_low}
-use Rattle.filters.specs.Filter.{shaped, pair_count, empty_count, Inside}
+use Rattle.filters.specs.Filter.{shaped, pair_count, Inside}
 use Rattle.filters.specs.Shapes.{shape_of, shaped_kept}
 use Rattle.placements.specs.declared.Joined.{Joined}
-use Rattle.consistency.specs.Cut.{CutTo, CutWhole, SomeEmpty}
+use Rattle.consistency.specs.Cut.{CutTo, CutWhole}
 use Rattle.consistency.specs.Support.{Arc, SupportedBut, Greatest, any_of, revised}
 use Rattle.consistency.specs.Theory.{any_has, any_some}
 use Rattle.graphs.proofs.Lowest.{lowest_off}
@@ -292,12 +292,3 @@ module _ {a r : Graph} {k : Bool} where
               let more = thin_fewer a r k ys zs (cut_thin a r k lv cl len t.thin.shape cut_now few) in
               ap (λ (m : ℕ). bit_or changed m) (whole.still (omega arith)) ∙ or_zero_r changed ∙ t.still (omega arith);
         }
-
--- a row is empty where empty rows are counted
-pub some_empty : (rows : List ℕ) → (empty_count rows ≡ 0 → ⊥) → SomeEmpty rows
-some_empty [] ne = absurd (ne refl)
-some_empty (zero ∷ xs) ne = record { unit = 0; below = omega arith; empty = refl }
-some_empty (suc x ∷ xs) ne =
-    let full : cond {A = ℕ} (eqb (suc x) 0) 1 0 ≡ 0 = ap (λ (t : Bool). cond {A = ℕ} t 1 0) (ne_eqb (suc x) 0 (λ z. omega arith)) in
-    let q = some_empty xs (λ e. ne (omega arith)) in
-    record { unit = suc q.unit; below = omega (arith, q.below); empty = q.empty }

@@ -123,7 +123,7 @@ fn settle<A: Source, R: Source>(problem: &Problem<A, R>, first: u64, rows: &mut 
     ensures all { result ≡ true → rows.new ≡ replicate (length rows.old) 0 }
     ensures greatest { SupportedBut (A.Source.graph problem.now.arrangement.now) (R.Source.graph problem.now.room.now) problem.now.strict first rows.old → Greatest (A.Source.graph problem.now.arrangement.now) (R.Source.graph problem.now.room.now) problem.now.strict rows.old rows.new }
 {
-    if empty_rows(rows) != 0 {
+    if rows.contains(&0) {
         rows.fill(0);
         return true;
     }
@@ -179,6 +179,7 @@ fn settle_shaped<A: Source, R: Source>(
     }
     let before = count_pairs(rows);
     if settle(problem, changed, rows) {
+        // No pair is left to count.
         return Counts {
             taken: before,
             empty: rows.len(),

@@ -1,16 +1,18 @@
-use Rattle.std.proofs.Common.{ℕ, ◌<◌, replicate, sym, ap, ◌∙◌, arith}
+use Rattle.std.proofs.Common.{ℕ, ◌<◌, get_or, replicate, sym, ap, ◌∙◌, arith}
+use Rattle.std.proofs.lemmas.Bool.{eqb-true}
 use Rattle.graphs.specs.Graph.{Graph}
 use Rattle.filters.specs.Shapes.{shape_of}
 use Rattle.consistency.proofs.Steps.{thin_none, cleared}
-use Rattle.consistency.proofs.Turns.{sweep_start, sweep_end, lowest_unit, turn_start, turn_end, turn_less, class_is, turn_short, turn_more, some_empty}
+use Rattle.consistency.proofs.Turns.{sweep_start, sweep_end, lowest_unit, turn_start, turn_end, turn_less, class_is, turn_short, turn_more}
 use Rattle.consistency.proofs.settle.Goals as goal
 
-pub returns-then-empty_rows-ne0 : goal.returns-then-empty_rows-ne0
-returns-then-empty_rows-ne0 g c =
+pub returns-then-contains : goal.returns-then-contains
+returns-then-contains g c =
     let a : Graph = g.A.Source.graph c.args.problem.now.arrangement.now in
     let r : Graph = g.R.Source.graph c.args.problem.now.room.now in
+    let q = c.if-contains.ensures.cases in
     let h = cleared a r c.args.problem.now.strict c.args.rows.now c.args.rows.now c.fill.new.self c.requires
-    (thin_none a r c.args.problem.now.strict c.args.rows.now c.requires) (some_empty c.args.rows.now (λ e. c.if-empty_rows-ne0.true (c.empty_rows.ensures ∙ e)))
+    (thin_none a r c.args.problem.now.strict c.args.rows.now c.requires) (record { unit = q.0; below = q.1; empty = eqb-true (get_or c.args.rows.now q.0 0) 0 (q.2 0) })
     (c.fill.ensures.after (λ x e. e)) in
     record { inside = h.inside; all = λ e. c.fill.ensures.after (λ x e. e); greatest = λ p. h }
 
