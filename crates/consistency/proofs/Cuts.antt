@@ -1,22 +1,21 @@
 -- The rows of some units cut to the bays of one row, from the lowest unit on. Assumes nothing.
-use Rattle.std.proofs.Common.{◌≡◌, ℕ, zero, suc, ◌+◌, ◌-◌, ◌*◌, ◌/◌, ◌%◌, ◌^◌, ◌<◌, ◌≤◌, Bool, true, false, not, ◌||◌, eqb, ◌⊎◌, List, length, get_or, set, sym, refl, ap, ◌∙◌, inl, inr, arith, length-set, get_or-set_other, get_or-set_same}
-use native.Mathlib.Nat.{pow-succ'}
-use lib.Bits.{bit_and, bit_or, and_le_l}
-use lib.Count.{ones, ones_step}
+use Rattle.std.proofs.Common.{◌≡◌, ℕ, ◌-◌, ◌*◌, ◌/◌, ◌%◌, ◌^◌, ◌<◌, ◌≤◌, Bool, true, false, not, ◌||◌, eqb, ◌⊎◌, List, Some, None, length, get_or, set, sym, refl, ap, ◌∙◌, inl, inr, arith, length-set, get_or-set_other, get_or-set_same}
+use lib.Bits.{bit_and, bit_or}
+use lib.Count.{ones}
 use Rattle.std.proofs.lemmas.Nat.{one_shl}
-use Rattle.std.proofs.lemmas.Bool.{both_ways, eqb-true, eq-eqb, ne_eqb, cases_eq, lt-ltb, cases_Bool, and_parts, and_from, or_cases, not_from_false}
+use Rattle.std.proofs.lemmas.Bool.{both_ways, eqb-true, eq-eqb, ne_eqb, cases_eq, cases_lt, lt-ltb, cases_Bool, and_parts, and_from, or_cases, not_from_false}
 use Rattle.graphs.specs.Rows.{bit, pairs}
 use Rattle.graphs.proofs.Bits.{bit_none, bit_of_and, bit_of_or, bit_one, bit_below}
 use Rattle.graphs.proofs.Rows.{bit_all}
 use Rattle.filters.specs.Filter.{Inside, pair_count, all_below}
 use Rattle.filters.specs.Shapes.{all_below_at}
-use Rattle.filters.specs.Counting.{Part, inside_half, low_inside, ones_zero, ones_same, below_pow}
+use Rattle.filters.specs.Counting.{Part, ones_same, below_pow, pair_count_mono}
 use Rattle.consistency.specs.Cut.{CutTo}
 use Rattle.graphs.proofs.Lowest.{Turn}
 use Rattle.consistency.proofs.Steps.{pair_count_set}
 
 -- the rows of the units that are not among the rest are cut
-pub record Cutting (units keep : ℕ) (before : List ℕ) (rest : ℕ) (rows : List ℕ) (changed taken : ℕ) : Type 0 where
+pub record Cutting (units keep : ℕ) (before : List ℕ) (rest : ℕ) (rows : List ℕ) (changed : ℕ) : Type 0 where
   pub many : length rows ≡ length before
   pub left : (u : ℕ) → bit rest u ≡ true → bit units u ≡ true
   pub inside : Inside rows before
@@ -24,25 +23,17 @@ pub record Cutting (units keep : ℕ) (before : List ℕ) (rest : ℕ) (rows : L
   pub cuts : (u b : ℕ) → bit units u ≡ true → bit rest u ≡ false → pairs rows u b ≡ true → bit keep b ≡ true
   pub same : (u : ℕ) → bit changed u ≡ false → get_or rows u 0 ≡ get_or before u 0
   pub only : (u : ℕ) → bit changed u ≡ true → bit units u ≡ true
-  pub counted : taken + pair_count rows ≡ pair_count before
-  pub still : taken ≡ 0 → changed ≡ 0
+  pub still : pair_count rows ≡ pair_count before → changed ≡ 0
 
--- the bays of y that are not in x
-ones_minus_k : (k x y : ℕ) → y < 2 ^ k → x ≤ y → Part x y → ones (y - x) + ones x ≡ ones y
-ones_minus_k zero x y l le h =
-    let z : x ≡ 0 = omega arith in
-    let w : y ≡ 0 = omega arith in
-    let e : y - x ≡ 0 = omega arith in
-    omega (arith, ap ones z, ap ones w, ap ones e, ones_zero)
-ones_minus_k (suc k) x y l le h =
-    let lo = low_inside x y h in
-    let e : (y - x) / 2 ≡ y / 2 - x / 2 = omega arith in
-    let i = ones_minus_k k (x / 2) (y / 2) (omega (arith, pow-succ' 2 k)) (omega arith) (inside_half x y h) in
-    omega (arith, ones_step x, ones_step y, ones_step (y - x), ap ones e)
-
-ones_minus : (row keep : ℕ) → ones (row - bit_and row keep) + ones (bit_and row keep) ≡ ones row
-ones_minus row keep =
-    ones_minus_k row (bit_and row keep) row (below_pow row) (and_le_l row keep) (λ b t. (and_parts (bit row b) (bit keep b) (sym (bit_of_and row keep b) ∙ t)).0)
+-- a row that is cut has fewer bays
+ones_less : (row keep : ℕ) → (bit_and row keep ≡ row → ⊥) → ones (bit_and row keep) < ones row
+ones_less row keep ne =
+    let x : ℕ = bit_and row keep in
+    let part : Part x row = λ b t. (and_parts (bit row b) (bit keep b) (sym (bit_of_and row keep b) ∙ t)).0 in
+    elim (cases_lt (ones x) (ones row)) [
+      | inl l ↦ l
+      | inr l ↦ absurd (ne (ones_same row x row (below_pow row) part l))
+    ]
 
 -- a unit more in the set
 pub bit_more : (x u w : ℕ) → u < 64 → bit (bit_or x ((1 * 2 ^ u) % 18446744073709551616)) w ≡ (bit x w || eqb u w)
@@ -55,7 +46,7 @@ or_none false t e = (refl, e)
 or_none true t e = absurd (both_ways true e refl)
 
 module _ (units keep : ℕ) (before : List ℕ) where
-  pub cutting_start : Cutting units keep before units before 0 0
+  pub cutting_start : Cutting units keep before units before 0
   cutting_start = record {
     many = refl;
     left = λ u t. t;
@@ -64,14 +55,13 @@ module _ (units keep : ℕ) (before : List ℕ) where
     cuts = λ u b t f. absurd (both_ways (bit units u) f t);
     same = λ u f. refl;
     only = λ u t. absurd (both_ways (bit 0 u) (bit_none u) t);
-    counted = omega arith;
     still = λ e. refl;
   }
 
-  abbrev Now : ℕ → List ℕ → ℕ → ℕ → Type 0
+  abbrev Now : ℕ → List ℕ → ℕ → Type 0
   Now = Cutting units keep before
 
-  module _ {rest u next changed taken : ℕ} {rows : List ℕ} (n : Turn rest u next) (h : Now rest rows changed taken) where
+  module _ {rest u next changed : ℕ} {rows : List ℕ} (n : Turn rest u next) (h : Now rest rows changed) where
     abbrev row : ℕ
     row = get_or rows u 0
 
@@ -93,7 +83,7 @@ module _ (units keep : ℕ) (before : List ℕ) where
         ]
 
     -- its row is inside `keep` already
-    pub cutting_pass : bit_and row keep ≡ row → Now next rows changed taken
+    pub cutting_pass : bit_and row keep ≡ row → Now next rows changed
     cutting_pass e = record {
       many = h.many;
       left = λ w t. h.left w (next_left w t);
@@ -105,18 +95,17 @@ module _ (units keep : ℕ) (before : List ℕ) where
       ];
       same = h.same;
       only = h.only;
-      counted = h.counted;
       still = h.still;
     }
 
     -- it is not: the row is cut
     pub cutting_step : ((w : ℕ) → bit units w ≡ true → w < length before) → (bit_and row keep ≡ row → ⊥)
-        → Now next (set rows u (bit_and row keep)) (bit_or changed ((1 * 2 ^ u) % 18446744073709551616)) (taken + ones (row - bit_and row keep))
+        → Now next (set rows u (bit_and row keep)) (bit_or changed ((1 * 2 ^ u) % 18446744073709551616))
     cutting_step w ne =
         let ll = lowest_here w in
         let x : ℕ = bit_and row keep in
         let parts : (b : ℕ) → bit x b ≡ true → (bit row b ≡ true) × (bit keep b ≡ true) = λ b t. and_parts (bit row b) (bit keep b) (sym (bit_of_and row keep b) ∙ t) in
-        let less : ones (row - x) + ones x ≡ ones row = ones_minus row keep in
+        let less : ones x < ones row = ones_less row keep ne in
         let here : get_or (set rows u x) u 0 ≡ x = get_or-set_same rows u x 0 ll in
         let set_here : (v b : ℕ) → v ≡ u → bit (get_or (set rows u x) v 0) b ≡ bit x b = λ v b z. ap (λ (w : ℕ). bit (get_or (set rows u x) w 0) b) z ∙ ap (λ (y : ℕ). bit y b) here in
         let set_there : (v b : ℕ) → (v ≡ u → ⊥) → bit (get_or (set rows u x) v 0) b ≡ bit (get_or rows v 0) b = λ v b nz. ap (λ (y : ℕ). bit y b) (get_or-set_other rows u v x 0 nz) in
@@ -146,55 +135,32 @@ module _ (units keep : ℕ) (before : List ℕ) where
             | inl s ↦ h.only v s
             | inr s ↦ ap (bit units) (sym (eqb-true u v s)) ∙ h.left u n.held
           ];
-          counted = omega (arith, h.counted);
-          still = λ z. absurd (ne (ones_same row x row (below_pow row) (λ b t. (parts b t).0) (omega arith)));
+          still = λ z. absurd (omega (arith, pair_count_mono rows before h.many h.inside));
         }
 
-    -- the pairs taken away were among those there
-    pub step_few : ((w : ℕ) → bit units w ≡ true → w < length before) → (bit_and row keep ≡ row → ⊥) → pair_count before ≤ 1536
-        → taken + ones (row - bit_and row keep) ≤ 1536
-    step_few w ne f = omega (arith, (cutting_step w ne).counted)
-
   -- all rows are cut
-  pub cut_all : (rest changed taken : ℕ) (rows : List ℕ) → Now rest rows changed taken → rest ≡ 0
-      → CutTo units keep before rows (record { changed = changed; taken = taken; emptied = false })
-  cut_all rest changed taken rows h z = record {
+  pub cut_all : (rest changed : ℕ) (rows : List ℕ) → Now rest rows changed → rest ≡ 0 → CutTo units keep before rows (Some changed)
+  cut_all rest changed rows h z = record {
     inside = h.inside;
     keeps = h.keeps;
-    cuts = λ e u b i t. h.cuts u b i (ap (λ (x : ℕ). bit x u) z ∙ bit_none u) t;
-    emptied = λ e. absurd (both_ways false refl e);
-    same = h.same;
-    only = h.only;
-    counted = h.counted;
-    still = h.still;
+    cases = record { cuts = λ u b i t. h.cuts u b i (ap (λ (x : ℕ). bit x u) z ∙ bit_none u) t; same = h.same; only = h.only; still = h.still };
   }
 
   -- a row became empty
-  pub cut_short : (rest changed taken u : ℕ) (rows : List ℕ) → Now rest rows changed taken → u < length rows → get_or rows u 0 ≡ 0
-      → CutTo units keep before rows (record { changed = changed; taken = taken; emptied = true })
-  cut_short rest changed taken u rows h l z = record {
+  pub cut_short : (rest changed u : ℕ) (rows : List ℕ) → Now rest rows changed → u < length rows → get_or rows u 0 ≡ 0
+      → CutTo units keep before rows None
+  cut_short rest changed u rows h l z = record {
     inside = h.inside;
     keeps = h.keeps;
-    cuts = λ e. absurd (both_ways true e refl);
-    emptied = λ e. record { unit = u; below = l; empty = z };
-    same = h.same;
-    only = h.only;
-    counted = h.counted;
-    still = h.still;
+    cases = record { unit = u; below = l; empty = z };
   }
 
   -- nothing has to go
-  pub cut_nothing : ((u b : ℕ) → bit units u ≡ true → pairs before u b ≡ true → bit keep b ≡ true)
-      → CutTo units keep before before (record { changed = 0; taken = 0; emptied = false })
+  pub cut_nothing : ((u b : ℕ) → bit units u ≡ true → pairs before u b ≡ true → bit keep b ≡ true) → CutTo units keep before before (Some 0)
   cut_nothing h = record {
     inside = λ u b t. t;
     keeps = λ u b t i. t;
-    cuts = λ e. h;
-    emptied = λ e. absurd (both_ways false refl e);
-    same = λ u f. refl;
-    only = λ u t. absurd (both_ways (bit 0 u) (bit_none u) t);
-    counted = omega arith;
-    still = λ e. refl;
+    cases = record { cuts = h; same = λ u f. refl; only = λ u t. absurd (both_ways (bit 0 u) (bit_none u) t); still = λ e. refl };
   }
 
 -- rows with no bay at or past n are inside the row of all n bays

@@ -1,25 +1,25 @@
 -- The work list: units whose rows the others must still be checked against. Assumes nothing.
-use Rattle.std.proofs.Common.{◌≡◌, ℕ, zero, suc, ◌+◌, ◌-◌, ◌*◌, ◌/◌, ◌%◌, ◌^◌, ◌<◌, ◌≤◌, Bool, true, false, cond, not, ◌&&◌, eqb, ltb, List, [], ◌∷◌, length, get_or, sym, refl, ap, ◌∙◌, subst, inl, inr, arith, pow_mono}
+use Rattle.std.proofs.Common.{◌≡◌, ℕ, ◌+◌, ◌-◌, ◌*◌, ◌/◌, ◌%◌, ◌^◌, ◌<◌, ◌≤◌, Bool, true, false, cond, not, ◌&&◌, eqb, ltb, List, Option, Some, None, length, get_or, replicate, sym, refl, ap, ◌∙◌, subst, inl, inr, arith, pow_mono}
 use lib.Bits.{bit_and, bit_or, and_le_r, or_zero_r}
 use lib.Count.{count_trailing_zeros}
+use Rattle.std.proofs.lemmas.Option.{MatchOption-at_some, MatchOption-at_none}
 use Rattle.std.proofs.lemmas.Bool.{both_ways, false≢true, ltb-true, lt-ltb, eq-eqb, ne_eqb, cases_eq, cases_Bool, and_parts, and_from, or_cases, not-true, not_from_false}
 use Rattle.graphs.specs.Rows.{bit, row_of}
-use Rattle.graphs.specs.Graph.{Graph, Sound}
+use Rattle.graphs.specs.Graph.{Graph}
 use Rattle.graphs.proofs.Bits.{bit_none, bit_of_or, bit_lowest, bits_below}
 use Rattle.graphs.proofs.Rows.{bit_row_of}
 use Rattle.placements.specs.Agreement.{agrees_if, agrees}
 use Rattle.placements.proofs.Masks.{bit_full, others_low}
-use Rattle.filters.specs.Filter.{shaped, pair_count, empty_count, Inside}
+use Rattle.filters.specs.Filter.{shaped, pair_count, Inside}
 use Rattle.filters.specs.Shapes.{shape_of, shaped_kept}
 use Rattle.placements.specs.declared.Joined.{Joined}
-use Rattle.consistency.specs.declared.Cut.{Cut}
-use Rattle.consistency.specs.Cut.{CutTo, SomeEmpty}
+use Rattle.consistency.specs.Cut.{CutTo, CutWhole}
 use Rattle.consistency.specs.Support.{Arc, SupportedBut, Greatest, any_of, revised}
 use Rattle.consistency.specs.Theory.{any_has, any_some}
 use Rattle.graphs.proofs.Lowest.{lowest_off}
 use Rattle.consistency.proofs.Lowest.{bit_mask}
 use Rattle.consistency.proofs.Cuts.{or_none}
-use Rattle.consistency.proofs.Steps.{Thinned, thin_none, thin_here, thin_both, thin_rises}
+use Rattle.consistency.proofs.Steps.{Thinned, thin_none, thin_both, thin_fewer, cleared}
 
 -- the classes of the other units by their joints to and from one unit, in the order in which they are gone through
 pub code : Bool → Bool → ℕ
@@ -91,24 +91,18 @@ class_is a r rows e {v} lv {out} {back} {from} {to} {units} ef et is =
           (of_is back (bit to u) (row (λ w. a.joined v w) to u et l ∙ eb)));
     }
 
--- one turn of the outer loop: v was taken out of the work list `old`, rows were xs and x pairs were taken away; now the classes
--- below `class` are done
-pub record Turned (a r : Graph) (k : Bool) (v : ℕ) (xs : List ℕ) (old x : ℕ) (ys : List ℕ) (changed y class : ℕ) : Type 0 where
-  pub thin : Thinned a r k xs x ys y
+-- one turn of the outer loop: v was taken out of the work list `old`, and rows were xs; now the classes below `class` are done
+pub record Turned (a r : Graph) (k : Bool) (v : ℕ) (xs : List ℕ) (old : ℕ) (ys : List ℕ) (changed class : ℕ) : Type 0 where
+  pub thin : Thinned a r k xs ys
   pub here : get_or ys v 0 ≡ get_or xs v 0
   pub kept : (w : ℕ) → bit changed w ≡ false → (bit old w ≡ false) × (get_or ys w 0 ≡ get_or xs w 0)
   pub within : (w : ℕ) → bit changed w ≡ true → w < a.count
   pub arcs : (u : ℕ) → u < a.count → (u ≡ v → ⊥) → code (a.joined u v) (a.joined v u) < class → Arc a r k ys u v
-  pub still : y ≡ x → changed ≡ old
-
--- at the end
-pub record Settled (a r : Graph) (k : Bool) (first : ℕ) (shown last : List ℕ) (total : ℕ) : Type 0 where
-  pub taken : total + pair_count last ≡ pair_count shown
-  pub greatest : SupportedBut a r k first shown → Greatest a r k shown last
+  pub still : pair_count ys ≡ pair_count xs → changed ≡ old
 
 -- between turns
-pub record Sweeping (a r : Graph) (k : Bool) (first : ℕ) (shown rows : List ℕ) (changed taken : ℕ) : Type 0 where
-  pub thin : Thinned a r k shown 0 rows taken
+pub record Sweeping (a r : Graph) (k : Bool) (first : ℕ) (shown rows : List ℕ) (changed : ℕ) : Type 0 where
+  pub thin : Thinned a r k shown rows
   pub within : (w : ℕ) → bit changed w ≡ true → w < a.count
   pub but : SupportedBut a r k first shown → SupportedBut a r k changed rows
 
@@ -131,15 +125,15 @@ module _ (a r : Graph) (k : Bool) where
       ∙ and_from (ltb b r.count) (bit 18446744073709551615 b && any_of other r.count (agrees_if r out back k b)) (lt-ltb b r.count l)
       (and_from (bit 18446744073709551615 b) (any_of other r.count (agrees_if r out back k b)) (bit_full b (omega arith)) e)
 
-  module _ {v : ℕ} (lv : v < a.count) {out back : Bool} {units : ℕ} (cl : Class a v out back units) {ys zs : List ℕ} {cut : Cut}
+  module _ {v : ℕ} (lv : v < a.count) {out back : Bool} {units : ℕ} (cl : Class a v out back units) {ys zs : List ℕ} {cut : Option ℕ}
       (len : length zs ≡ length ys) (sh : shaped a r ys ≡ true) (h : CutTo units (revised r out back k 18446744073709551615 (get_or ys v 0)) ys zs cut) where
     -- the supports that the class has at v, in the terms of its joints
     agree_is : (u b c : ℕ) → bit units u ≡ true → agrees a r k u b v c ≡ agrees_if r out back k b c
     agree_is u b c t =
         ap (λ (s : Bool). agrees_if r s (a.joined v u) k b c) (cl.joined_to u t) ∙ ap (λ (s : Bool). agrees_if r out s k b c) (cl.joined_from u t)
 
-    pub cut_thin : r.count ≤ 64 → (y : ℕ) → y + pair_count ys ≤ 1536 → Thinned a r k ys y zs (y + cut.taken)
-    cut_thin few y small =
+    pub cut_thin : r.count ≤ 64 → Thinned a r k ys zs
+    cut_thin few =
         let s = shape_of a r ys sh in
         record {
           shape = shaped_kept a r ys zs sh len h.inside;
@@ -150,20 +144,19 @@ module _ (a r : Graph) (k : Bool) where
               any_keep few out back (get_or ys v 0) b (s.under w b (i w b t))
               (any_has (get_or ys v 0) r.count (agrees_if r out back k b) g.bay (s.under v g.bay (i v g.bay g.held)) (i v g.bay g.held)
               (sym (agree_is w b g.bay tu) ∙ g.agreeing)));
-          counted = omega (arith, h.counted);
-          small = omega (arith, h.counted);
         }
 
-    pub cut_here : get_or zs v 0 ≡ get_or ys v 0
-    cut_here = h.same v (elim (cases_Bool (bit cut.changed v)) [
-      | inl t ↦ absurd (cl.other v (h.only v t) refl)
-      | inr t ↦ t
-    ])
+    module _ {n : ℕ} (whole : CutWhole units (revised r out back k 18446744073709551615 (get_or ys v 0)) ys zs n) where
+      pub cut_here : get_or zs v 0 ≡ get_or ys v 0
+      cut_here = whole.same v (elim (cases_Bool (bit n v)) [
+        | inl t ↦ absurd (cl.other v (whole.only v t) refl)
+        | inr t ↦ t
+      ])
 
-    pub cut_arc : cut.emptied ≡ false → (u : ℕ) → bit units u ≡ true → Arc a r k zs u v
-    cut_arc e u tu b t =
-        let q = any_some (get_or ys v 0) r.count (agrees_if r out back k b) (keep_any out back 18446744073709551615 (get_or ys v 0) b (h.cuts e u b tu t)) in
-        record { bay = q.at; held = ap (λ (x : ℕ). bit x q.at) cut_here ∙ q.held; agreeing = agree_is u b q.at tu ∙ q.passes }
+      pub cut_arc : (u : ℕ) → bit units u ≡ true → Arc a r k zs u v
+      cut_arc u tu b t =
+          let q = any_some (get_or ys v 0) r.count (agrees_if r out back k b) (keep_any out back 18446744073709551615 (get_or ys v 0) b (whole.cuts u b tu t)) in
+          record { bay = q.at; held = ap (λ (x : ℕ). bit x q.at) cut_here ∙ q.held; agreeing = agree_is u b q.at tu ∙ q.passes }
 
 abbrev next : ℕ → ℕ
 next changed = bit_and changed (changed - 1)
@@ -176,30 +169,30 @@ next_parts changed w l f t = (and_parts (bit changed w) (not (eqb w (count_trail
 
 module _ {a r : Graph} {k : Bool} where
   -- each turn leaves fewer pairs, or as many and a shorter work list
-  pub turn_less : {xs ys : List ℕ} {changed x now y class : ℕ} → 0 < changed
-      → Turned a r k (count_trailing_zeros 64 changed) xs (next changed) x ys now y class
+  pub turn_less : {xs ys : List ℕ} {changed now class : ℕ} → 0 < changed
+      → Turned a r k (count_trailing_zeros 64 changed) xs (next changed) ys now class
       → 18446744073709551616 * pair_count ys + now < 18446744073709551616 * pair_count xs + changed
-  turn_less {xs} {ys} {changed} {x} {now} {y} l t =
-      let up = thin_rises a r k xs ys x y t.thin in
+  turn_less {xs} {ys} {changed} {now} l t =
+      let m = thin_fewer a r k xs ys t.thin in
       let f = changed_fits a.count now (shape_of a r ys t.thin.shape).few t.within in
-      elim (cases_eq y x) [
-        | inl e ↦ omega (arith, t.thin.counted, t.still e, and_le_r changed (changed - 1))
-        | inr ne ↦ omega (arith, t.thin.counted)
+      elim (cases_eq (pair_count ys) (pair_count xs)) [
+        | inl e ↦ omega (arith, t.still e, and_le_r changed (changed - 1))
+        | inr ne ↦ omega arith
       ]
 
   module _ {first : ℕ} {shown : List ℕ} where
     -- the unit that is taken out of the work list
-    pub lowest_unit : {xs : List ℕ} {changed x : ℕ} → Sweeping a r k first shown xs changed x → 0 < changed
+    pub lowest_unit : {xs : List ℕ} {changed : ℕ} → Sweeping a r k first shown xs changed → 0 < changed
         → (count_trailing_zeros 64 changed < a.count) × (count_trailing_zeros 64 changed < length xs)
     lowest_unit {xs} {changed} h l =
         let v : ℕ = count_trailing_zeros 64 changed in
         let lv : v < a.count = h.within v (bit_lowest 64 changed l (changed_fits a.count changed (shape_of a r xs h.thin.shape).few h.within)) in
         (lv, omega (arith, (shape_of a r xs h.thin.shape).many))
 
-    pub turn_start : {xs : List ℕ} {changed x : ℕ} → Sweeping a r k first shown xs changed x → 0 < changed
-        → Turned a r k (count_trailing_zeros 64 changed) xs (next changed) x xs (next changed) x 0
-    turn_start {xs} {changed} {x} h l = record {
-      thin = thin_here a r k shown xs 0 x h.thin;
+    pub turn_start : {xs : List ℕ} {changed : ℕ} → Sweeping a r k first shown xs changed → 0 < changed
+        → Turned a r k (count_trailing_zeros 64 changed) xs (next changed) xs (next changed) 0
+    turn_start {xs} {changed} h l = record {
+      thin = thin_none a r k xs h.thin.shape;
       here = refl;
       kept = λ w t. (t, refl);
       within = λ w t. h.within w (next_parts changed w l (changed_fits a.count changed (shape_of a r xs h.thin.shape).few h.within) t);
@@ -208,13 +201,13 @@ module _ {a r : Graph} {k : Bool} where
     }
 
     -- all classes are done
-    pub turn_end : {xs ys : List ℕ} {changed x now y class : ℕ} → Sweeping a r k first shown xs changed x → 0 < changed
-        → Turned a r k (count_trailing_zeros 64 changed) xs (next changed) x ys now y class → class ≡ 4 → Sweeping a r k first shown ys now y
-    turn_end {xs} {ys} {changed} {x} {now} {y} h l t e =
+    pub turn_end : {xs ys : List ℕ} {changed now class : ℕ} → Sweeping a r k first shown xs changed → 0 < changed
+        → Turned a r k (count_trailing_zeros 64 changed) xs (next changed) ys now class → class ≡ 4 → Sweeping a r k first shown ys now
+    turn_end {xs} {ys} {changed} {now} h l t e =
         let v : ℕ = count_trailing_zeros 64 changed in
         let f = changed_fits a.count changed (shape_of a r xs h.thin.shape).few h.within in
         record {
-          thin = thin_both a r k shown xs ys 0 x y h.thin t.thin;
+          thin = thin_both a r k shown xs ys h.thin t.thin;
           within = t.within;
           but = λ p u w lu lw ne o. elim (cases_eq w v) [
             | inl z ↦ subst (λ (n : ℕ). Arc a r k ys u n) (sym z)
@@ -231,25 +224,22 @@ module _ {a r : Graph} {k : Bool} where
         }
 
     -- the work list is empty
-    pub sweep_end : {rows : List ℕ} {changed taken : ℕ} → Sweeping a r k first shown rows changed taken → changed ≡ 0
-        → Settled a r k first shown rows taken
-    sweep_end h z = record {
-      taken = omega (arith, h.thin.counted);
-      greatest = λ p. record {
-        as_many = h.thin.many;
-        inside = h.thin.inside;
-        supported = λ u v lu lv ne. h.but p u v lu lv ne (ap (λ (x : ℕ). bit x v) z ∙ bit_none v);
-        most = λ other i s. h.thin.most other s i;
-      };
+    pub sweep_end : {rows : List ℕ} {changed : ℕ} → Sweeping a r k first shown rows changed → changed ≡ 0
+        → SupportedBut a r k first shown → Greatest a r k shown rows
+    sweep_end h z p = record {
+      as_many = h.thin.many;
+      inside = h.thin.inside;
+      supported = λ u v lu lv ne. h.but p u v lu lv ne (ap (λ (x : ℕ). bit x v) z ∙ bit_none v);
+      most = λ other i s. h.thin.most other s i;
     }
 
-    pub sweep_start : Sound r → shaped a r shown ≡ true → Sweeping a r k first shown shown (bit_and first (18446744073709551615 / 2 ^ (64 - length shown))) 0
-    sweep_start so e =
+    pub sweep_start : shaped a r shown ≡ true → Sweeping a r k first shown shown (bit_and first (18446744073709551615 / 2 ^ (64 - length shown)))
+    sweep_start e =
         let m : ℕ = length shown in
         let n = (shape_of a r shown e).many in
         let lm : m ≤ 64 = omega (arith, (shape_of a r shown e).few) in
         record {
-          thin = thin_none a r k shown so e;
+          thin = thin_none a r k shown e;
           within = λ w t. let q = ltb-true w m (and_parts (bit first w) (ltb w m) (sym (bit_mask m first w lm) ∙ t)).1 in omega arith;
           but = λ p u v lu lv ne o. p u v lu lv ne
               (elim (cases_Bool (bit first v)) [
@@ -259,51 +249,46 @@ module _ {a r : Graph} {k : Bool} where
               ]);
         }
 
-  module _ (few : r.count ≤ 64) {v : ℕ} (lv : v < a.count) {xs ys : List ℕ} {old x changed y class : ℕ} (t : Turned a r k v xs old x ys changed y class)
-      {units : ℕ} (cl : Class a v (way class).out (way class).back units) {zs : List ℕ} {cut : Cut} (len : length zs ≡ length ys)
+  module _ (few : r.count ≤ 64) {v : ℕ} (lv : v < a.count) {xs ys : List ℕ} {old changed class : ℕ} (t : Turned a r k v xs old ys changed class)
+      {units : ℕ} (cl : Class a v (way class).out (way class).back units) {zs : List ℕ} {cut : Option ℕ} (len : length zs ≡ length ys)
       (h : CutTo units (revised r (way class).out (way class).back k 18446744073709551615 (get_or xs v 0)) ys zs cut) where
     cut_now : CutTo units (revised r (way class).out (way class).back k 18446744073709551615 (get_or ys v 0)) ys zs cut
     cut_now = subst (λ (n : ℕ). CutTo units (revised r (way class).out (way class).back k 18446744073709551615 n) ys zs cut) (sym t.here) h
 
-    turn_thin : Thinned a r k xs x zs (y + cut.taken)
-    turn_thin = thin_both a r k xs ys zs x y (y + cut.taken) t.thin
-        (cut_thin a r k lv cl len t.thin.shape cut_now few y t.thin.small)
+    turn_thin : Thinned a r k xs zs
+    turn_thin = thin_both a r k xs ys zs t.thin (cut_thin a r k lv cl len t.thin.shape cut_now few)
 
-    pub turn_all : {shown : List ℕ} → Thinned a r k shown 0 xs x → Thinned a r k shown 0 zs (y + cut.taken)
-    turn_all {shown} h = thin_both a r k shown xs zs 0 x (y + cut.taken) h turn_thin
+    -- a row became empty
+    pub turn_short : {shown last : List ℕ} → shaped a r shown ≡ true → Thinned a r k shown xs → cut ≡ None → last ≡ replicate (length zs) 0
+        → Greatest a r k shown last
+    turn_short {shown} {last} e s o la =
+        cleared a r k shown zs last e (thin_both a r k shown xs zs s turn_thin)
+        (MatchOption-at_none _ _ o h.cases) la
 
-    pub turn_more : cut.emptied ≡ false → Turned a r k v xs old x zs (bit_or changed cut.changed) (y + cut.taken) (class + 1)
-    turn_more e =
-        let here : get_or zs v 0 ≡ get_or ys v 0 = cut_here a r k lv cl len t.thin.shape cut_now in
+    -- none did
+    pub turn_more : (n : ℕ) → cut ≡ Some n → Turned a r k v xs old zs (bit_or changed n) (class + 1)
+    turn_more n o =
+        let whole : CutWhole units (revised r (way class).out (way class).back k 18446744073709551615 (get_or ys v 0)) ys zs n = MatchOption-at_some _ _ n o cut_now.cases in
+        let here : get_or zs v 0 ≡ get_or ys v 0 = cut_here a r k lv cl len t.thin.shape cut_now whole in
         record {
           thin = turn_thin;
           here = here ∙ t.here;
           kept = λ w o.
-              let q = or_none (bit changed w) (bit cut.changed w) (sym (bit_of_or changed cut.changed w) ∙ o) in
+              let q = or_none (bit changed w) (bit n w) (sym (bit_of_or changed n w) ∙ o) in
               let p = t.kept w q.0 in
-              (p.0, h.same w q.1 ∙ p.1);
-          within = λ w o. elim (or_cases (bit changed w) (bit cut.changed w) (sym (bit_of_or changed cut.changed w) ∙ o)) [
+              (p.0, whole.same w q.1 ∙ p.1);
+          within = λ w o. elim (or_cases (bit changed w) (bit n w) (sym (bit_of_or changed n w) ∙ o)) [
             | inl s ↦ t.within w s
-            | inr s ↦ cl.below w (h.only w s)
+            | inr s ↦ cl.below w (whole.only w s)
           ];
           arcs = λ u lu ne c. elim (cases_eq class (code (a.joined u v) (a.joined v u))) [
             | inl z ↦
                 let q = code_way class (a.joined u v) (a.joined v u) (sym z) in
-                cut_arc a r k lv cl len t.thin.shape cut_now e u (cl.each u lu ne q.0 q.1)
+                cut_arc a r k lv cl len t.thin.shape cut_now whole u (cl.each u lu ne q.0 q.1)
             | inr nz ↦ arc_kept a r k ys zs u v h.inside here (t.arcs u lu ne (omega arith))
           ];
           still = λ z.
-              let up = thin_rises a r k xs ys x y t.thin in
-              let none : cut.taken ≡ 0 = omega arith in
-              let yx : y ≡ x = omega arith in
-              ap (λ (n : ℕ). bit_or changed n) (h.still none) ∙ or_zero_r changed ∙ t.still yx;
+              let up = thin_fewer a r k xs ys t.thin in
+              let more = thin_fewer a r k ys zs (cut_thin a r k lv cl len t.thin.shape cut_now few) in
+              ap (λ (m : ℕ). bit_or changed m) (whole.still (omega arith)) ∙ or_zero_r changed ∙ t.still (omega arith);
         }
-
--- a row is empty where empty rows are counted
-pub some_empty : (rows : List ℕ) → (empty_count rows ≡ 0 → ⊥) → SomeEmpty rows
-some_empty [] ne = absurd (ne refl)
-some_empty (zero ∷ xs) ne = record { unit = 0; below = omega arith; empty = refl }
-some_empty (suc x ∷ xs) ne =
-    let full : cond {A = ℕ} (eqb (suc x) 0) 1 0 ≡ 0 = ap (λ (t : Bool). cond {A = ℕ} t 1 0) (ne_eqb (suc x) 0 (λ z. omega arith)) in
-    let q = some_empty xs (λ e. ne (omega arith)) in
-    record { unit = suc q.unit; below = omega (arith, q.below); empty = q.empty }

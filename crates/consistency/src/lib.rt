@@ -7,7 +7,7 @@ ghost use Rattle.placements.specs.Agreement.{agrees_if};
 ghost use Rattle.consistency.specs.Support.{SupportGreatest, SupportedBut, Greatest, AllOrNone, any_of, revised, support_meaning};
 ghost use Rattle.consistency.specs.Rooms.{RoomsHold, rooms};
 ghost use Rattle.consistency.specs.Cut.{CutTo};
-ghost use Rattle.filters.specs.Filter.{all_below, pair_count, shaped, Counted};
+ghost use Rattle.filters.specs.Filter.{all_below, pair_count, shaped, Counted, Inside};
 ghost use Rattle.consistency.specs.Theory.{support_lawful};
 
 use filters::{Counts, Filter, empty_rows, nothing_taken, well_shaped};
@@ -56,43 +56,25 @@ pub fn revise<A, R: Source>(problem: &Problem<A, R>, joined: Joined, row: u64, o
     found
 }
 
-// What was done to the rows of some units: which of them changed, how many pairs went, and whether a row was left empty.
-#[derive(Clone, Copy)]
-struct Cut {
-    changed: u64,
-    taken: usize,
-    emptied: bool,
-}
-
-// Leaves in the rows of the units only the bays of `keep`, and stops at a row that has none of them.
-fn cut_rows(rows: &mut [u64], units: u64, keep: u64) -> Cut
-    requires within { (u : ℕ) → bit units u ≡ true → u < length rows.old }
-    requires few { pair_count rows.old ≤ 1536 }
+// Leaves in the rows of the units only the bays of `keep`, and answers the units whose rows changed. Stops at a row that has none
+// of them, and answers nothing then.
+fn cut_rows(rows: &mut [u64], units: u64, keep: u64) -> Option<u64>
+    requires { (u : ℕ) → bit units u ≡ true → u < length rows.old }
     ensures { CutTo units keep rows.old rows.new result }
 {
     let mut changed: u64 = 0;
-    let mut taken: usize = 0;
     for u in nodes(units) {
         let old = rows[u];
         let row = old & keep;
         if row != old {
-            taken += (old - row).count_ones() as usize;
             rows[u] = row;
             changed |= 1 << u;
             if row == 0 {
-                return Cut {
-                    changed,
-                    taken,
-                    emptied: true,
-                };
+                return None;
             }
         }
     }
-    Cut {
-        changed,
-        taken,
-        emptied: false,
-    }
+    Some(changed)
 }
 
 // Of the `others`, the units that are joined to a unit (are in `from`) or not, as `joined.out` says, and that it is joined to (are
@@ -105,65 +87,46 @@ fn class_of(others: u64, from: u64, to: u64, joined: Joined) -> u64
     others & first & second
 }
 
-// Leaves in the rows of the units of one class only the bays that agree with some bay of the other row.
+// Leaves in the rows of the units of one class only the bays that agree with some bay of the other row, as `cut_rows` does.
 fn cut_class<A, R: Source>(
     problem: &Problem<A, R>,
     joined: Joined,
     units: u64,
     other: u64,
     rows: &mut [u64],
-) -> Cut
+) -> Option<u64>
     requires within { (u : ℕ) → bit units u ≡ true → u < length rows.old }
     requires below { all_below (R.Source.graph problem.now.room.now).count rows.old ≡ true }
-    requires few { pair_count rows.old ≤ 1536 }
     ensures { CutTo units (revised (R.Source.graph problem.now.room.now) joined.out joined.back problem.now.strict 18446744073709551615 other) rows.old rows.new result }
 {
-    let nothing = Cut {
-        changed: 0,
-        taken: 0,
-        emptied: false,
-    };
     if units == 0 {
-        return nothing;
+        return Some(0);
     }
     let keep = revise(problem, joined, u64::MAX, other);
     if keep == u64::MAX >> (64 - problem.room.count()) {
-        return nothing;
+        return Some(0);
     }
     cut_rows(rows, units, keep)
 }
 
-// Takes every pair away, and says how many there were.
-fn clear(rows: &mut [u64]) -> usize
-    requires { pair_count rows.old ≤ 1536 }
-    ensures rows { rows.new ≡ replicate (length rows.old) 0 }
-    ensures taken { result ≡ pair_count rows.old }
-{
-    let mut taken: usize = 0;
-    for row in rows.iter_mut() {
-        taken += row.count_ones() as usize;
-        *row = 0;
-    }
-    taken
-}
-
-// Takes away pairs without support until each has one, and says how many. The work list `changed` holds the units whose rows the
-// others must still be checked against. It begins with those in `first`; where each pair has its supports at the units outside
-// `first`, what is left is the greatest supported rows.
-fn settle<A: Source, R: Source>(problem: &Problem<A, R>, first: u64, rows: &mut [u64]) -> usize
+// Takes away pairs without support until each has one, or every pair where a row has none left, and answers whether it took every
+// pair. The work list `changed` holds the units whose rows the others must still be checked against. It begins with those in
+// `first`; where each pair has its supports at the units outside `first`, what is left is the greatest supported rows.
+fn settle<A: Source, R: Source>(problem: &Problem<A, R>, first: u64, rows: &mut [u64]) -> bool
     requires { shaped (A.Source.graph problem.now.arrangement.now) (R.Source.graph problem.now.room.now) rows.old ≡ true }
-    ensures taken { result + pair_count rows.new ≡ pair_count rows.old }
+    ensures inside { Inside rows.new rows.old }
+    ensures all { result ≡ true → rows.new ≡ replicate (length rows.old) 0 }
     ensures greatest { SupportedBut (A.Source.graph problem.now.arrangement.now) (R.Source.graph problem.now.room.now) problem.now.strict first rows.old → Greatest (A.Source.graph problem.now.arrangement.now) (R.Source.graph problem.now.room.now) problem.now.strict rows.old rows.new }
 {
-    if empty_rows(rows) != 0 {
-        return clear(rows);
+    if rows.contains(&0) {
+        rows.fill(0);
+        return true;
     }
     let all = u64::MAX >> (64 - rows.len());
     let mut changed = first & all;
-    let mut taken: usize = 0;
     'sweep: loop {
         if changed == 0 {
-            return taken;
+            return false;
         }
         let v = changed.trailing_zeros() as usize;
         changed &= changed - 1;
@@ -178,15 +141,22 @@ fn settle<A: Source, R: Source>(problem: &Problem<A, R>, first: u64, rows: &mut 
                 back: class / 2 == 1,
             };
             let units = class_of(others, from, to, joined);
-            let cut = cut_class(problem, joined, units, other, rows);
-            changed |= cut.changed;
-            taken += cut.taken;
-            if cut.emptied {
+            let Some(cut) = cut_class(problem, joined, units, other, rows) else {
                 break 'sweep;
-            }
+            };
+            changed |= cut;
         }
     }
-    taken + clear(rows)
+    rows.fill(0);
+    true
+}
+
+// How many pairs the rows hold.
+fn count_pairs(rows: &[u64]) -> usize
+    requires { length rows.now ≤ 24 }
+    ensures { result ≡ pair_count rows.now }
+{
+    rows.iter().map(|row| row.count_ones() as usize).sum()
 }
 
 // Settles the rows against those of the units in `changed`, and counts. Rows of another shape are left alone.
@@ -202,9 +172,16 @@ fn settle_shaped<A: Source, R: Source>(
     if !well_shaped(problem, rows) {
         return nothing_taken(rows);
     }
-    let taken = settle(problem, changed, rows);
+    let before = count_pairs(rows);
+    if settle(problem, changed, rows) {
+        // No pair is left to count.
+        return Counts {
+            taken: before,
+            empty: rows.len(),
+        };
+    }
     Counts {
-        taken,
+        taken: before - count_pairs(rows),
         empty: empty_rows(rows),
     }
 }

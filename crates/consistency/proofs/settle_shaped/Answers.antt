@@ -1,27 +1,25 @@
-use Rattle.std.proofs.Common.{◌≡◌, true, false, sym, refl, ◌∙◌}
-use Rattle.std.proofs.lemmas.Bool.{both_ways}
-use Rattle.graphs.specs.Graph.{Graph}
-use Rattle.filters.specs.Filter.{shaped}
+use Rattle.std.proofs.Common.{length, sym, ap, ◌∙◌, arith}
+use Rattle.filters.specs.Filter.{pair_count, empty_count}
+use Rattle.filters.specs.Counting.{pair_count_mono}
+use Rattle.consistency.proofs.Counts.{pair_count_none, empty_count_all}
 use Rattle.consistency.proofs.settle_shaped.Goals as goal
 
-pub returns-then-not-well_shaped : goal.returns-then-not-well_shaped
-returns-then-not-well_shaped g c =
-    let a : Graph = g.A.Source.graph c.args.problem.now.arrangement.now in
-    let r : Graph = g.R.Source.graph c.args.problem.now.room.now in
-    let e : shaped a r c.args.rows.now ≡ false = sym c.well_shaped.ensures ∙ c.if-not-well_shaped.true in
+pub returns-then-settle-clause-counts : goal.returns-then-settle-clause-counts
+returns-then-settle-clause-counts g c =
+    let e = c.settle.ensures.all c.if-settle.true in
+    let none = pair_count_none (length c.args.rows.now) in
     record {
-      counts = c.nothing_taken.ensures;
-      greatest = λ t. absurd (both_ways (shaped a r c.args.rows.now) e t);
-      ill = λ t. refl;
+      taken = omega (arith, c.count_pairs-before.ensures, ap pair_count e, none);
+      empty = c.settle.auto.rows ∙ sym (ap empty_count e ∙ empty_count_all (length c.args.rows.now));
     }
 
-pub returns : goal.returns
-returns g c =
-    let a : Graph = g.A.Source.graph c.args.problem.now.arrangement.now in
-    let r : Graph = g.R.Source.graph c.args.problem.now.room.now in
-    let e : shaped a r c.args.rows.now ≡ true = sym c.well_shaped.ensures ∙ c.if-not-well_shaped.false in
+pub overflow_sub-result : goal.overflow_sub-result
+overflow_sub-result g c =
+    omega (arith, c.count_pairs-before.ensures, c.count_pairs.ensures, pair_count_mono c.settle.new.rows c.args.rows.now c.settle.auto.rows c.settle.ensures.inside)
+
+pub returns-clause-counts : goal.returns-clause-counts
+returns-clause-counts g c =
     record {
-      counts = record { taken = sym c.settle-taken.ensures.taken; empty = c.empty_rows.ensures };
-      greatest = λ t. c.settle-taken.ensures.greatest;
-      ill = λ t. absurd (both_ways (shaped a r c.args.rows.now) t e);
+      taken = omega (arith, c.count_pairs-before.ensures, c.count_pairs.ensures, pair_count_mono c.settle.new.rows c.args.rows.now c.settle.auto.rows c.settle.ensures.inside);
+      empty = c.empty_rows.ensures;
     }
