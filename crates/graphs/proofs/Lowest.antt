@@ -14,7 +14,7 @@ use Rattle.std.proofs.lemmas.Bool.Decides.{nat_tests}
 use Rattle.graphs.specs.Rows.{bit}
 use Rattle.graphs.specs.Nodes.{nodes_of}
 use Rattle.graphs.specs.declared.RowNodes.{RowNodes}
-use Rattle.graphs.proofs.Bools.{and_true}
+use Rattle.std.proofs.Math.Bool.{and-true}
 use Rattle.graphs.proofs.Bits.{digit_cases, bit_none, bit_zero, bit_suc, bit_of_and, bit_lowest, bit_past, same_rows}
 
 -- no node is below the lowest
@@ -73,7 +73,7 @@ first_passed p q m (suc n) a l h here none but =
           let pa : p a ≡ true = ap p z ∙ here in
           let qa : q a ≡ false = but a ∙ ap (λ (t : Bool). p a && not t) (eq-eqb a m z) ∙ and_right (p a) (not true) refl in
           let i : filter q (range_with_len (a + 1) n) ≡ filter p (range_with_len (a + 1) n) = same_passed q p n (a + 1)
-          (λ c g. but c ∙ ap (λ (t : Bool). p c && not t) (ne_eqb c m (λ e. omega arith)) ∙ and_true (p c)) in
+          (λ c g. but c ∙ ap (λ (t : Bool). p c && not t) (ne_eqb c m (λ e. omega arith)) ∙ and-true (p c)) in
           rw (pa, qa, i) (ap (λ (y : ℕ). y ∷ filter p (range_with_len (a + 1) n)) z)
       | inr z ↦
           let pa : p a ≡ false = none a (omega arith) in

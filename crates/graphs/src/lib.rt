@@ -5,7 +5,7 @@ pub mod pairs;
 #[cfg(test)]
 mod tests;
 
-ghost use Rattle.std.specs.Prelude.{◌≡◌, ℕ, ◌<◌, ◌≤◌, ◌^◌, Bool};
+ghost use Rattle.std.specs.Prelude.{◌≡◌, ℕ, ◌<◌, ◌≤◌, ◌^◌, Bool, ◌&&◌, ◌||◌, ◌==◌, nat_lt};
 ghost use Rattle.graphs.specs.Rows.{bit, row_of};
 ghost use Rattle.graphs.specs.Nodes.{nodes_of};
 ghost use Rattle.graphs.specs.Graph.{Graph, Sound, Symmetric};
@@ -16,6 +16,28 @@ pub fn holds(row: u64, b: usize) -> bool
     ensures { result ≡ bit row b }
 {
     b < 64 && (row >> b) % 2 == 1
+}
+
+// The nodes below `count`: all 64 that a row may hold where `count` is 64 or more.
+pub fn first_nodes(count: usize) -> u64
+    ensures { (k : ℕ) → bit result k ≡ (nat_lt k count && nat_lt k 64) }
+{
+    if count < 64 {
+        (1 << count) - 1
+    } else {
+        u64::MAX
+    }
+}
+
+// The row with the node `b` too, where it is wanted and one of the 64.
+pub fn with_node(row: u64, wanted: bool, b: usize) -> u64
+    ensures { (k : ℕ) → bit result k ≡ (bit row k || (wanted && (nat_lt b 64 && b == k))) }
+{
+    if wanted && b < 64 {
+        row | (1 << b)
+    } else {
+        row
+    }
 }
 
 // The nodes of a row that are still to come, lowest first.
@@ -88,7 +110,7 @@ fn row_where<P: Fn(usize) -> bool>(count: usize, passes: P) -> u64
     ensures { (p : ℕ → Bool) → ((b : ℕ) (t : Bool) → b < count → P.post passes b t → t ≡ p b) → result ≡ row_of count p }
 {
     let mut row: u64 = 0;
-    // Nodes are numbers here: there is no slice to go over.
+    // `(0..count).filter(|b| passes(*b)).fold(0, |row, b| row | 1 << b)` says this by two closures more: no plainer.
     for b in 0..count {
         if passes(b) {
             row |= 1 << b;
