@@ -7,41 +7,41 @@ ghost use Rattle.refusals.specs.Numbers.{number_of, layer_of};
 #[derive(Clone, Copy, PartialEq, Eq, Debug)]
 pub enum Reason {
     // Units outside 1 to 24 or bays outside 1 to 64.
-    Sizes,
+    Sizes = 1,
     // A unit or a bay that the plan does not have.
-    OutOfRange,
+    OutOfRange = 2,
     // Struck already, or not struck where it should be.
-    Standing,
+    Standing = 3,
     // Not one card a unit and one a bay.
-    CardCount,
+    CardCount = 4,
     // The plan is not fitted.
-    NoFit,
+    NoFit = 5,
     // A source of another count than the plan's.
-    OtherCount,
+    OtherCount = 6,
     // There is no last answer to go on from.
-    NoLastAnswer,
+    NoLastAnswer = 7,
     // The buffer has fewer bytes than there are units.
-    ShortBuffer,
+    ShortBuffer = 8,
     // No placement of the wanted sort exists.
-    NoPlacement,
+    NoPlacement = 9,
     // A source of joints breaks a rule of sources.
-    IllJoints,
+    IllJoints = 10,
     // The bytes end before the part being read does.
-    Ended,
+    Ended = 11,
     // An unknown form byte, strictness byte or edition.
-    Unknown,
+    Unknown = 12,
     // A table of more than 64 rows or columns.
-    TooMany,
+    TooMany = 13,
     // A map bit at or past the row count.
-    MapBit,
+    MapBit = 14,
     // A stored row that is zero.
-    ZeroRow,
+    ZeroRow = 15,
     // A stored row with a bit at or past the column count.
-    RowBit,
+    RowBit = 16,
     // Bytes left after a plan.
-    BytesLeft,
+    BytesLeft = 17,
     // The buffer is shorter than what is to be written into it.
-    NoRoom,
+    NoRoom = 18,
 }
 
 // The number of a reason, as it is printed.
@@ -49,36 +49,17 @@ impl From<Reason> for u8 {
     ghost from_gives = { λ reason number. number ≡ number_of reason };
 
     fn from(reason: Reason) -> u8 {
-        match reason {
-            Reason::Sizes => 1,
-            Reason::OutOfRange => 2,
-            Reason::Standing => 3,
-            Reason::CardCount => 4,
-            Reason::NoFit => 5,
-            Reason::OtherCount => 6,
-            Reason::NoLastAnswer => 7,
-            Reason::ShortBuffer => 8,
-            Reason::NoPlacement => 9,
-            Reason::IllJoints => 10,
-            Reason::Ended => 11,
-            Reason::Unknown => 12,
-            Reason::TooMany => 13,
-            Reason::MapBit => 14,
-            Reason::ZeroRow => 15,
-            Reason::RowBit => 16,
-            Reason::BytesLeft => 17,
-            Reason::NoRoom => 18,
-        }
+        reason as u8
     }
 }
 
 // The layer that found what is wrong.
 #[derive(Clone, Copy, PartialEq, Eq, Debug)]
 pub enum Layer {
-    Table,
+    Table = 1,
     // A look-over or a plan.
-    Plan,
-    Job,
+    Plan = 2,
+    Job = 3,
 }
 
 // The number of a layer, as it is printed.
@@ -86,11 +67,7 @@ impl From<Layer> for u8 {
     ghost from_gives = { λ layer number. number ≡ layer_of layer };
 
     fn from(layer: Layer) -> u8 {
-        match layer {
-            Layer::Table => 1,
-            Layer::Plan => 2,
-            Layer::Job => 3,
-        }
+        layer as u8
     }
 }
 
@@ -101,4 +78,35 @@ pub struct Told {
     pub reason: Reason,
     pub layer: Layer,
     pub place: usize,
+}
+
+impl Told {
+    // The numbers of the reason and of the layer, and the place, as they are printed.
+    pub fn numbers(self) -> (u8, u8, usize)
+        ensures { result ≡ (number_of self.reason, layer_of self.layer, self.place) }
+    {
+        (u8::from(self.reason), u8::from(self.layer), self.place)
+    }
+}
+
+#[cfg(test)]
+mod tests {
+    use super::*;
+
+    // The first and the last number of each sort.
+    #[test]
+    fn numbers(rt: HostRuntime) {
+        let first = Told {
+            reason: Reason::Sizes,
+            layer: Layer::Table,
+            place: 7,
+        };
+        assert_eq!(rt; first.numbers(), (1, 1, 7));
+        let last = Told {
+            reason: Reason::NoRoom,
+            layer: Layer::Job,
+            place: 0,
+        };
+        assert_eq!(rt; last.numbers(), (18, 3, 0));
+    }
 }

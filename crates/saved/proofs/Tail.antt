@@ -7,6 +7,7 @@ use Rattle.tables.specs.declared.fault.SaveFault.{SaveFault}
 use Rattle.tables.specs.declared.fault.SaveFault.TheVariants.{Short}
 use Rattle.text.specs.Lay.{lay}
 use Rattle.tables.specs.Saved.{Saved}
+use Rattle.tables.proofs.Parts.{ok_same, err_not_ok}
 
 lay_suc : (x : ℕ) (xs : List ℕ) (at : ℕ) (bs : List ℕ) → lay (x ∷ xs) (suc at) bs ≡ x ∷ lay xs at bs
 unfolding lay
@@ -25,15 +26,6 @@ put_tail o os part =
 front_tail : (o : ℕ) (os : List ℕ) → take (length (o ∷ os) - 1) (drop 1 (o ∷ os)) ≡ os
 front_tail o os = let e : length (o ∷ os) - 1 ≡ length os = omega arith in rw e (take_all (length os) os (omega arith))
 
-err_not_ok : {P : Type 0} (e : SaveFault) (n : ℕ) → ◌≡◌ {A = Result ℕ SaveFault} (Err e) (Ok n) → P
-err_not_ok e n p = let z : ◌≡◌ {A = ℕ} 0 1 = cc in absurd (omega arith)
-
-ok_not_err : {P : Type 0} (e : SaveFault) (n : ℕ) → ◌≡◌ {A = Result ℕ SaveFault} (Ok n) (Err e) → P
-ok_not_err e n p = let z : ◌≡◌ {A = ℕ} 0 1 = cc in absurd (omega arith)
-
-ok_same : (m n : ℕ) → ◌≡◌ {A = Result ℕ SaveFault} (Ok m) (Ok n) → m ≡ n
-ok_same m n e = cc
-
 pub tail_none : (form out : List ℕ) → length out < 1 → Saved (2 ∷ form) out out (Err Short)
 tail_none form out h =
     let s : ltb (length out) (length (2 ∷ form)) ≡ true = lt-ltb (length out) (length (2 ∷ form)) (omega arith) in
@@ -49,7 +41,7 @@ tail_err form (o ∷ os) part e h g =
     let s : ltb (length os) (length form) ≡ true = lt-ltb (length os) (length form) short in
     let s' : ltb (length (o ∷ os)) (length (2 ∷ form)) ≡ true = lt-ltb (length (o ∷ os)) (length (2 ∷ form)) (omega arith) in
     record { answer = rw s' (rw s at a); buffer = rw s' (put_tail o os part ∙ ap (λ t. o ∷ t) (rw s at b)) })
-    (λ room. err_not_ok e (length form) (rw (le-ltb (length os) (length form) room) at a))
+    (λ room. err_not_ok (rw (le-ltb (length os) (length form) room) at a))
     (cases_lt (length os) (length form))
 
 pub tail_ok : (form out part : List ℕ) (n : ℕ) → 1 ≤ length out → Saved form (take (length out - 1) (drop 1 out)) part (Ok n) → Saved (2 ∷ form) out (set (put_mid 1 (length out - 1) out part) 0 2) (Ok (n + 1))
@@ -58,11 +50,11 @@ tail_ok form (o ∷ os) part n h g =
     let a = rw (front_tail o os) at g.answer in
     let b = rw (front_tail o os) at g.buffer in
     ⊎_elim
-    (λ short. ok_not_err Short n (rw (lt-ltb (length os) (length form) short) at a))
+    (λ short. err_not_ok (sym (rw (lt-ltb (length os) (length form) short) at a)))
     (λ room.
     let s : ltb (length os) (length form) ≡ false = le-ltb (length os) (length form) room in
     let s' : ltb (length (o ∷ os)) (length (2 ∷ form)) ≡ false = le-ltb (length (o ∷ os)) (length (2 ∷ form)) (omega arith) in
-    let same : n ≡ length form = ok_same n (length form) (rw s at a) in
+    let same : n ≡ length form = ok_same (rw s at a) in
     let more : n + 1 ≡ length (2 ∷ form) = omega (arith, same) in
     record {
       answer = rw s' (ap Ok more);

@@ -20,7 +20,7 @@ pub enum PlanFault {
     Left(usize),
 }
 
-// A table's fault travels whole inside the plan's.
+// A table's fault travels whole inside the plan's. Written by hand, as a derive would state no variant to a contract.
 impl From<TableFault> for PlanFault {
     ghost from_gives = { λ e r. r ≡ InPlan e };
 

@@ -1,17 +1,9 @@
 -- The loop that makes a table of rows. Assumes nothing.
-use Rattle.std.proofs.Common.{◌≡◌, ℕ, ◌+◌, ◌%◌, ◌^◌, ◌<◌, min, ◌≢◌, List, [], ◌∷◌, ◌++◌, map, length, get_or, take, set, replicate, sym, refl, ap, ◌∙◌, ⊎_elim, arith, length-set}
+use Rattle.std.proofs.Common.{◌≡◌, ℕ, ◌+◌, ◌%◌, ◌^◌, ◌<◌, min, ◌≢◌, List, [], ◌∷◌, ◌++◌, map, length, get_or, take, set, replicate, sym, refl, ap, ◌∙◌, arith, length-set}
 use Rattle.std.proofs.lemmas.Nat.{pow_pos, mod_below}
-use Rattle.std.proofs.lemmas.List.{get_or-set_other, map_more, take_all, take_more_set}
-use Rattle.std.proofs.lemmas.Bool.{cases_lt}
+use Rattle.std.proofs.lemmas.List.{get_or-set_other, map_more, take_min, take_more_set}
 use Rattle.tables.specs.Shape.{Inside, Blank}
 use Rattle.tables.proofs.Steps.{zeros, zeros_inside, set_inside}
-
-front_same : (rows : List ℕ) (n : ℕ) → take (min (length rows) n) rows ≡ take n rows
-front_same rows n =
-    ⊎_elim
-    (λ l. ap (λ m. take m rows) (let e : min (length rows) n ≡ length rows = omega arith in e) ∙ take_all (length rows) rows (omega arith) ∙ sym (take_all n rows (omega arith)))
-    (λ g. ap (λ m. take m rows) (let e : min (length rows) n ≡ n = omega arith in e))
-    (cases_lt (length rows) n)
 
 -- the first k rows are set, each without its bits past the columns
 pub record Filling (columns : ℕ) (rows : List ℕ) (k : ℕ) (bits : List ℕ) : Type 0 where
@@ -35,4 +27,4 @@ module _ {columns : ℕ} {rows : List ℕ} {k : ℕ} {bits : List ℕ} (g : Fill
       }
 
   pub filling_done : k ≡ min (length rows) 64 → take k bits ≡ map (λ row. row % 2 ^ columns) (take 64 rows)
-  filling_done e = g.front ∙ ap (map (λ row. row % 2 ^ columns)) (ap (λ n. take n rows) e ∙ front_same rows 64)
+  filling_done e = g.front ∙ ap (map (λ row. row % 2 ^ columns)) (ap (λ n. take n rows) (let all : k ≡ min 64 (length rows) = omega (arith, e) in all) ∙ take_min 64 rows)

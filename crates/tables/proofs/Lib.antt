@@ -1,6 +1,7 @@
 pub mod Words
 pub mod Accepted
 pub mod Steps
+pub mod Coming
 pub mod Putting
 pub mod Back
 pub mod Saving

@@ -1,7 +1,7 @@
 -- Reading a table, step by step: the loop over the rows, the map, the counts. Assumes nothing.
-use Rattle.std.proofs.Common.{◌≡◌, ℕ, zero, suc, ◌+◌, ◌-◌, ◌/◌, ◌%◌, ◌^◌, ◌<◌, ◌≤◌, ◌≢◌, List, [], ◌∷◌, ◌++◌, length, get_or, take, drop, set, replicate, Bool, true, false, cond, ltb, None, Ok, Err, Result, sym, refl, ap, ◌∙◌, subst, ⊎_elim, inl, inr, append_assoc, append-nil, arith, length-drop, length-set, lt-ltb}
+use Rattle.std.proofs.Common.{◌≡◌, ℕ, zero, suc, ◌+◌, ◌-◌, ◌/◌, ◌%◌, ◌^◌, ◌<◌, ◌≤◌, ◌≢◌, List, [], ◌∷◌, ◌++◌, length, get_or, take, drop, set, replicate, Bool, true, false, cond, ltb, None, Ok, Err, Result, sym, refl, ap, ◌∙◌, subst, ⊎_elim, append_assoc, append-nil, arith, length-drop, length-set, lt-ltb}
 use Rattle.std.proofs.lemmas.Nat.{pow_pos}
-use Rattle.std.proofs.lemmas.List.{drop-drop, get_or-append_right, get_or-drop, get_or_append_left, length-replicate, take_all, take_at, get_or-set_same, get_or-set_other, set_past, take_more, take_more_set}
+use Rattle.std.proofs.lemmas.List.{drop-drop, get_or-set_same, get_or-set_other, set_past, take_more, take_more_set}
 use Rattle.std.proofs.lemmas.Result.{IfOk-at_ok}
 use Rattle.std.proofs.lemmas.Bool.{cases_eq, cases_lt}
 use Rattle.tables.specs.declared.fault.TableFault.{TableFault}
@@ -89,42 +89,27 @@ set_inside columns k row bits f h j =
     (λ ne. rw (get_or-set_other bits k j row 0 ne) (f j))
     (cases_eq j k)
 
--- ---- rows laid over zeros
+-- ---- the rows
 
-module _ (n : ℕ) (rows : List ℕ) (long : length rows ≡ n) where
-  past_zero : (j : ℕ) → n ≤ j → get_or {A = ℕ} (rows ++ drop n (replicate 64 0)) j 0 ≡ 0
-  past_zero j h = get_or-append_right rows (drop n (replicate 64 0)) n j 0 long h ∙ get_or-drop n (replicate {A = ℕ} 64 0) (j - n) 0 ∙ zeros 64 (n + (j - n))
-
-  pub laid_inside : (columns : ℕ) → Inside columns rows → Inside columns (rows ++ drop n (replicate 64 0))
-  laid_inside columns f j =
-      elim (cases_lt j n) [
-        | inl l ↦ rw (get_or_append_left rows (drop n (replicate 64 0)) 0 j (omega (arith, long))) (f j)
-        | inr g ↦ rw (past_zero j g) (pow_pos columns)
-      ]
-
-  pub laid_blank : Blank n (rows ++ drop n (replicate 64 0))
-  laid_blank j h = past_zero j h
-
-  pub laid_front : take n (rows ++ drop n (replicate 64 0)) ≡ rows
-  laid_front = take_at rows (drop n (replicate 64 0)) n long
-
--- what the loop keeps: what is left of the bytes ends where they ended, what was read and what is still to be read make
+-- before the row k: what is left of the bytes ends where they ended, what was read and what is still to be read make
 -- up the whole answer, the rows from k on are still zero, and those before have no bit past the columns
 pub record Going (start part : Part) (map columns count k left : ℕ) (rows : List ℕ) : Type 0 where
   pub ends : end_of part ≡ end_of start
-  pub long : length rows ≡ count
+  pub few : count ≤ 64
+  pub long : length rows ≡ 64
   pub whole : resumed (take k rows) (read_rows (count - k) left columns (end_of start) part.at part.bytes.now) ≡ read_rows count map columns (end_of start) start.at start.bytes.now
   pub blank : Blank k rows
   pub inside : Inside columns rows
 
-pub going_none : (start : Part) (map columns count : ℕ) (rows : List ℕ) → rows ≡ replicate count 0 → Going start start map columns count 0 map rows
-going_none start map columns count rows e =
+pub going_none : (start : Part) (map columns count : ℕ) → count ≤ 64 → Going start start map columns count 0 map (replicate 64 0)
+going_none start map columns count few =
     record {
       ends = refl;
-      long = ap length e ∙ length-replicate count 0;
+      few = few;
+      long = refl;
       whole = let all : count - 0 ≡ count = omega arith in rw all (resumed_none _);
-      blank = λ j h. rw e (zeros count j);
-      inside = λ j. rw e (zeros_inside columns count j);
+      blank = λ j h. zeros 64 j;
+      inside = zeros_inside columns 64;
     }
 
 module _ {start part : Part} {map columns count k left : ℕ} {rows : List ℕ} (g : Going start part map columns count k left rows) where
@@ -132,8 +117,9 @@ module _ {start part : Part} {map columns count k left : ℕ} {rows : List ℕ} 
   going_skip l e =
       record {
         ends = g.ends;
+        few = g.few;
         long = g.long;
-        whole = skip_at left columns (end_of start) part.at part.bytes.now count k rows l (omega (arith, g.long)) (g.blank k (omega arith)) e ∙ g.whole;
+        whole = skip_at left columns (end_of start) part.at part.bytes.now count k rows l (omega (arith, g.long, g.few)) (g.blank k (omega arith)) e ∙ g.whole;
         blank = λ j h. g.blank j (omega arith);
         inside = g.inside;
       }
@@ -145,8 +131,9 @@ module _ {start part : Part} {map columns count k left : ℕ} {rows : List ℕ} 
       let w : Row columns part.bytes.now row = IfOk-at_ok (Row columns part.bytes.now) here (row_accepted (end_of start) part.at columns part.bytes.now) in
       record {
         ends = past_ends 8 part part' past ∙ g.ends;
+        few = g.few;
         long = length-set rows k row ∙ g.long;
-        whole = rw (past.place, past.bytes) (stored_at left columns (end_of start) part.at part.bytes.now count k row rows l (omega (arith, g.long)) e here ∙ g.whole);
+        whole = rw (past.place, past.bytes) (stored_at left columns (end_of start) part.at part.bytes.now count k row rows l (omega (arith, g.long, g.few)) e here ∙ g.whole);
         blank = λ j h. let ne : j ≢ k = omega arith in rw get_or-set_other (g.blank j (omega arith));
         inside = set_inside columns k row rows g.inside w.narrow;
       }
@@ -157,12 +144,12 @@ module _ {start part : Part} {map columns count k left : ℕ} {rows : List ℕ} 
       let here : read_row (end_of start) part.at columns part.bytes.now ≡ Err e = rw (← g.ends) o in
       refused_at left columns (end_of start) part.at part.bytes.now count k e rows l one here ∙ g.whole
 
-  pub going_done : count ≤ k → Ok (rows, part.at) ≡ read_rows count map columns (end_of start) start.at start.bytes.now
-  going_done l =
-      let none : count - k ≡ 0 = omega arith in
-      let all : take k rows ≡ rows = take_all k rows (omega (arith, g.long)) in
-      let w = rw (none, all) at g.whole in
-      sym (done left columns (end_of start) part.at part.bytes.now rows) ∙ w
+pub going_done : {start part : Part} {map columns count left : ℕ} {rows : List ℕ} → Going start part map columns count count left rows
+    → Ok (take count rows, part.at) ≡ read_rows count map columns (end_of start) start.at start.bytes.now
+going_done {start} {part} {map} {columns} {count} {left} {rows} g =
+    let none : count - count ≡ 0 = omega arith in
+    let w = rw none at g.whole in
+    sym (done left columns (end_of start) part.at part.bytes.now (take count rows)) ∙ w
 
 -- ---- what is read next, and what then
 

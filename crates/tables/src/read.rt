@@ -1,4 +1,4 @@
-ghost use Rattle.std.specs.Prelude.{◌≡◌, ℕ, ◌+◌, ◌^◌, ◌<◌, ◌≤◌, length, IfSome, IfOk, OnOk};
+ghost use Rattle.std.specs.Prelude.{◌≡◌, ℕ, ◌+◌, ◌/◌, ◌^◌, ◌<◌, ◌≤◌, length, IfSome, IfOk, OnOk};
 ghost use Rattle.tables.specs.Form.{Lawful};
 ghost use Rattle.tables.specs.Parts.{Anything, Exact};
 ghost use Rattle.tables.specs.Taking.{end_of, Past};
@@ -8,6 +8,7 @@ ghost use Rattle.tables.specs.Read.{lowest_past, checked_row, checked_count, hel
 use crate::fault::{TableCause, TableFault};
 use crate::part::{Counts, Part};
 use crate::table::Table;
+use graphs::nodes;
 
 // The lowest set bit of `n` at or past `limit`.
 fn lowest_past(n: u64, limit: usize) -> Option<usize>
@@ -54,15 +55,12 @@ fn read_row(part: &mut Part, columns: usize) -> Result<u64, TableFault>
 
 // The table whose stored rows, those that `map` names, come next; and the place behind them.
 fn read_rows(mut part: Part, counts: Counts, map: u64) -> Result<(Table, usize), TableFault>
+    requires { map / 2 ^ counts.rows ≡ 0 }
     ensures { seen result ≡ held counts.columns (read_rows counts.rows map counts.columns (end_of part.entry) part.entry.at part.entry.bytes.now) }
 {
     let mut bits = [0; 64];
-    let mut left = map;
-    for row in bits[..counts.rows].iter_mut() {
-        if left % 2 == 1 {
-            *row = read_row(&mut part, counts.columns)?;
-        }
-        left /= 2;
+    for k in nodes(map) {
+        bits[k] = read_row(&mut part, counts.columns)?;
     }
     let table = Table {
         count: counts.rows,
@@ -72,7 +70,7 @@ fn read_rows(mut part: Part, counts: Counts, map: u64) -> Result<(Table, usize),
     Ok((table, part.at))
 }
 
-// A count of rows or columns, whose byte stands at the place `at`.
+// A count of rows or columns, whose byte stands at the place `at`. The error of a `TryFrom` could not carry that place.
 fn checked_count(byte: u8, at: usize) -> Result<usize, TableFault>
     ensures value { result ≡ checked_count byte at }
     ensures few { IfOk result (λ n. n ≤ 64) }

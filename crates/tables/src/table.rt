@@ -1,4 +1,5 @@
-// A table of at most 64 rows of at most 64 columns. The rows lie in an array of fixed length, since the library has no heap.
+// A table of at most 64 rows of at most 64 columns. The rows lie in an array of fixed length, and no `ArrayVec`: a table is copied, and
+// the zeros behind its rows make equal tables equal bit by bit.
 ghost use Rattle.std.specs.Prelude.{◌≤◌};
 ghost use Rattle.tables.specs.Shape.{Inside, Blank};
 

@@ -32,7 +32,8 @@ fn rows_len(rows: &[u64]) -> usize
     8 * rows.iter().filter(|row| **row != 0).count()
 }
 
-// Writes the rows that are not zero from the place `at` on, and answers the place behind them.
+// Writes the rows that are not zero from the place `at` on, and answers the place behind them. `text::Text` tests the room at each
+// put; here it is tested once, before the first byte, so each put would have a refusal that never comes.
 fn put_rows(out: &mut [u8], at: usize, rows: &[u64]) -> usize
     requires { at + length (rows_bytes rows.now) ≤ length out.old }
     ensures place { result ≡ at + length (rows_bytes rows.now) }
