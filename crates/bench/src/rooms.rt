@@ -1,6 +1,7 @@
 // Fixed arrangements and rooms, drawn from a shape and a number.
 use crate::run::Measure;
 use drawing::{Chance, Graph};
+use graphs::Source;
 use placements::Problem;
 use sources::{JointTable, WallGrid};
 use std::alloc::{AllocError, Global};
@@ -86,6 +87,21 @@ impl Family {
         Ok(Room { units, bays, open })
     }
 
+    // Measures in a drawn room by the source of its joints.
+    fn print_in<R: Source, M: Measure>(
+        &self,
+        drawn: &Room,
+        room: &R,
+        measure: &M,
+    ) -> io::Result<()> {
+        let problem = Problem {
+            arrangement: &JointTable::new(drawn.units.rows(), drawn.units.count),
+            room,
+            strict: self.strict,
+        };
+        measure.print(problem, &drawn.open)
+    }
+
     // Measures in the room with this number: a wall by its two sizes, and any other room by a joint table.
     pub(crate) fn measure<M: Measure>(
         &self,
@@ -94,31 +110,14 @@ impl Family {
         measure: &M,
     ) -> io::Result<()> {
         let drawn = self.room(alloc, number)?;
-        let arrangement = &JointTable::new(drawn.units.rows(), drawn.units.count);
-        let strict = self.strict;
         // The sources are of two types, so each has its call.
         match self.bays {
             Shape::Wall { columns, levels } => {
-                let room = &WallGrid::new(columns, levels);
-                measure.print(
-                    Problem {
-                        arrangement,
-                        room,
-                        strict,
-                    },
-                    &drawn.open,
-                )
+                self.print_in(&drawn, &WallGrid::new(columns, levels), measure)
             }
             _ => {
-                let room = &JointTable::new(drawn.bays.rows(), drawn.bays.count);
-                measure.print(
-                    Problem {
-                        arrangement,
-                        room,
-                        strict,
-                    },
-                    &drawn.open,
-                )
+                let table = JointTable::new(drawn.bays.rows(), drawn.bays.count);
+                self.print_in(&drawn, &table, measure)
             }
         }
     }

@@ -7,6 +7,7 @@ use placements::Problem;
 use search::{Find, SearchError, first};
 use std::io;
 
+// How many tries an answer counts. Trials counts them too, but the crate that both stand on knows nothing of searches.
 fn tries_of(answer: Result<Find, SearchError>) -> u64 {
     match answer {
         Ok(find) => u64::from(find.tries),

@@ -1,35 +1,26 @@
 // Cases of the job call: what the text ends with, and what the buffer keeps.
 #![tactic(auto)]
 
+ghost use Rattle.std.specs.Prelude.{◌≡◌, ◌+◌, ◌*◌};
+
 #[cfg(test)]
 mod tests {
     use listings::planbench_job;
 
-    // One unit of kind 0 in a room of 20 bays without joints.
-    fn twenty_bays() -> [u8; 75] {
-        let mut bytes = [0; 75];
+    // One unit of kind 0 in a room of so many bays without joints.
+    fn job_in<const N: usize>(bays: u8) -> [u8; N]
+        requires { N ≡ 35 + 2 * bays }
+    {
+        let mut bytes = [0; N];
         bytes[1] = 1;
         bytes[3] = 1;
         bytes[4] = 1;
-        bytes[13] = 20;
-        bytes[14] = 20;
-        bytes[64] = 2;
-        bytes[65] = 1;
-        bytes[66] = 20;
-        bytes
-    }
-
-    // The same with 21 bays.
-    fn one_bay_more() -> [u8; 77] {
-        let mut bytes = [0; 77];
-        bytes[1] = 1;
-        bytes[3] = 1;
-        bytes[4] = 1;
-        bytes[13] = 21;
-        bytes[14] = 21;
-        bytes[66] = 2;
-        bytes[67] = 1;
-        bytes[68] = 21;
+        bytes[13] = bays;
+        bytes[14] = bays;
+        let plan_at = 24 + 2 * usize::from(bays);
+        bytes[plan_at] = 2;
+        bytes[plan_at + 1] = 1;
+        bytes[plan_at + 2] = bays;
         bytes
     }
 
@@ -37,7 +28,7 @@ mod tests {
     #[test]
     fn twenty_then_end(rt: HostRuntime) {
         let mut out = [7; 1536];
-        let answer = planbench_job(&twenty_bays(), &mut out);
+        let answer = planbench_job(&job_in::<75>(20), &mut out);
         assert_eq!(rt; answer, Ok(54));
         assert_eq!(rt; out[47], b'1');
         assert_eq!(rt; out[48], b'9');
@@ -50,7 +41,7 @@ mod tests {
     #[test]
     fn twenty_first_is_not_listed(rt: HostRuntime) {
         let mut out = [7; 1536];
-        let answer = planbench_job(&one_bay_more(), &mut out);
+        let answer = planbench_job(&job_in::<77>(21), &mut out);
         assert_eq!(rt; answer, Ok(55));
         assert_eq!(rt; out[50], b'm');
         assert_eq!(rt; out[55], 7);

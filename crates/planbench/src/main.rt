@@ -7,7 +7,8 @@ use listings::planbench_job;
 use std::io;
 use std::io::Read;
 
-// Fills the buffer from its start until it is full or the input ends, and answers how much it holds.
+// Fills the buffer from its start until it is full or the input ends, and answers how much it holds. std's `read_to_end` wants a
+// Vec, and reads again where a read was interrupted; here each error is passed on.
 fn fill<R: Read>(from: &mut R, buffer: &mut [u8]) -> io::Result<usize>
     ensures { IfOk result (λ n. n ≤ length buffer.new) }
 {

@@ -9,7 +9,8 @@ use itoa::Buffer;
 #[cfg(test)]
 mod tests;
 
-// A text of `len` bytes at the front of a buffer. It grows at its end, and the bytes behind it stay.
+// A text of `len` bytes at the front of a buffer. It grows at its end, and the bytes behind it stay. The buffer is the caller's, as
+// libraries here use no heap.
 #[derive(Drop)]
 pub struct Text<'a> {
     pub out: &'a mut [u8],
@@ -26,7 +27,8 @@ impl<'a> Text<'a> {
         Text { out, len: 0 }
     }
 
-    // Puts `bytes` at the end, or nothing where they do not fit.
+    // Puts `bytes` at the end, or nothing where they do not fit. An error type would have one case, which only the job call would turn into
+    // a refusal; of a `fmt::Write` nothing is known after an error, and here it is.
     pub fn put(&mut self, bytes: &[u8]) -> Option<()>
         ensures { Put bytes.now self.old self.new result }
     {

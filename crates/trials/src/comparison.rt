@@ -1,15 +1,15 @@
 // The two searches side by side.
-use crate::plain::Case;
+use crate::plain::PlainSearch;
 use crate::tally::Tally;
 use filters::Filter;
 use graphs::Source;
 use placements::Problem;
 use search::{Find, SearchError, first, next_after};
 
-// A case for the second search, and the same as the search is asked it. The filter is lent for longer, so it has a lifetime of its own.
+// The second search of a case, and the same as the search is asked it. The filter is lent for longer, so it has a lifetime of its own.
 #[derive_where(Clone, Copy)]
 pub(crate) struct Comparison<'a, 'f, A, R, F> {
-    pub case: &'a Case,
+    pub plain: PlainSearch<'a>,
     pub problem: Problem<'a, A, R>,
     pub filter: &'f F,
 }
@@ -19,8 +19,8 @@ impl<'a, 'f, A: Source, R: Source, F: Filter> Comparison<'a, 'f, A, R, F> {
     fn same(&self, wanted: Option<usize>, answer: Result<Find, SearchError>) -> bool {
         match (wanted, answer) {
             (Some(number), Ok(find)) => {
-                let bays = &find.bays[0..self.case.units.count.min(24)];
-                find.bays == self.case.list(number) && self.problem.is_placement(bays)
+                let bays = &find.bays[0..self.plain.case.units.count.min(24)];
+                find.bays == self.plain.list(number) && self.problem.is_placement(bays)
             }
             (None, Err(SearchError::NoPlacement { .. })) => true,
             _ => false,
@@ -34,7 +34,7 @@ impl<'a, 'f, A: Source, R: Source, F: Filter> Comparison<'a, 'f, A, R, F> {
         answer: Result<Find, SearchError>,
         tally: &mut Tally,
     ) -> Option<usize> {
-        let wanted = self.case.placement_from(self.problem.strict, from);
+        let wanted = self.plain.placement_from(from);
         let same = self.same(wanted, answer);
         tally.count(answer, same);
         wanted.filter(|_| same)
@@ -42,16 +42,16 @@ impl<'a, 'f, A: Source, R: Source, F: Filter> Comparison<'a, 'f, A, R, F> {
 
     // The first placement after the list with this number, which need be no placement.
     pub(crate) fn after(&self, number: usize, tally: &mut Tally) -> Option<usize> {
-        let last = self.case.list(number);
-        let answer = next_after(&self.problem, self.filter, &self.case.open, &last);
+        let last = self.plain.list(number);
+        let answer = next_after(&self.problem, self.filter, &self.plain.case.open, &last);
         self.agreed(number.saturating_add(1), answer, tally)
     }
 
     // The chain of all placements, each sought after the one before.
     pub(crate) fn chain(&self, tally: &mut Tally) {
-        let answer = first(&self.problem, self.filter, &self.case.open);
+        let answer = first(&self.problem, self.filter, &self.plain.case.open);
         let mut placement = self.agreed(0, answer, tally);
-        for _ in 0..self.case.lists() {
+        for _ in 0..self.plain.lists() {
             let Some(number) = placement else { return };
             placement = self.after(number, tally);
         }

@@ -12,7 +12,7 @@ use drawing::{Chance, Graph};
 use filters::{Filter, Open, Repeated, Then};
 use graphs::Source;
 use placements::Problem;
-use plain::Case;
+use plain::{Case, PlainSearch};
 use sources::{JointTable, WallGrid};
 use std::alloc::{AllocError, Global};
 use std::io;
@@ -45,9 +45,13 @@ impl<'a, F: Filter + Drop> Trial<'a, F> {
 
     // All searches in one room.
     fn compare<'r, R: Source>(&mut self, case: &'r Case, room: &'r R) {
-        let number = self.chance.between(0, case.lists().saturating_sub(1));
-        let comparison = Comparison {
+        let plain = PlainSearch {
             case,
+            strict: self.strict,
+        };
+        let number = self.chance.between(0, plain.lists().saturating_sub(1));
+        let comparison = Comparison {
+            plain,
             problem: Problem {
                 arrangement: &JointTable::new(case.units.rows(), case.units.count),
                 room,
@@ -78,14 +82,11 @@ impl<'a, F: Filter + Drop> Trial<'a, F> {
         Ok(())
     }
 
-    // Every room.
+    // Every room, of each kind in turn.
     fn run(mut self) -> Result<Tally, AllocError> {
-        for k in 0..ROOMS {
-            if k % 2 == 0 {
-                self.compare_in_table()?;
-            } else {
-                self.compare_in_wall()?;
-            }
+        for _ in 0..ROOMS / 2 {
+            self.compare_in_table()?;
+            self.compare_in_wall()?;
         }
         Ok(self.tally)
     }

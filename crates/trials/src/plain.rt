@@ -3,7 +3,8 @@ use drawing::{Chance, Graph};
 use graphs::holds;
 use std::alloc::{AllocError, Global};
 
-// An arrangement, a room, and for each unit the row of the bays that are open to it.
+// An arrangement, a room, and for each unit the row of the bays that are open to it. Bench has such a struct too, drawn from shapes:
+// the crate that both stand on is a library, which uses no heap, and the rows lie in a Vec.
 #[derive(Drop)]
 pub(crate) struct Case {
     pub units: Graph,
@@ -28,18 +29,30 @@ impl Case {
         }
         Ok(Case { units, bays, open })
     }
+}
 
+// The second search of a case, in the open or the strict use.
+#[derive(Clone, Copy)]
+pub(crate) struct PlainSearch<'a> {
+    pub case: &'a Case,
+    pub strict: bool,
+}
+
+impl<'a> PlainSearch<'a> {
     // How many lists of bays there are, one bay a unit.
     pub(crate) fn lists(&self) -> usize {
-        (0..self.units.count).fold(1usize, |lists, _| lists.saturating_mul(self.bays.count))
+        (0..self.case.units.count).fold(
+            1usize,
+            |lists, _| lists.saturating_mul(self.case.bays.count),
+        )
     }
 
     // The list with this number, counted from 0 in dictionary order, and zeros behind, as a search answers it.
     pub(crate) fn list(&self, number: usize) -> [u8; 24] {
-        let bays = self.bays.count.max(1);
+        let bays = self.case.bays.count.max(1);
         let mut list = [0u8; 24];
         let mut rest = number;
-        for bay in list.iter_mut().take(self.units.count).rev() {
+        for bay in list.iter_mut().take(self.case.units.count).rev() {
             *bay = (rest % bays) as u8;
             rest /= bays;
         }
@@ -47,29 +60,29 @@ impl Case {
     }
 
     // Whether the bays b and c of two different units u and v obey the rules.
-    fn suits(&self, strict: bool, (u, b): (usize, usize), (v, c): (usize, usize)) -> bool {
-        let units = self.units.joined(u, v);
-        let bays = self.bays.joined(b, c);
-        b != c && (bays || !units) && (units || !bays || !strict)
+    fn suits(&self, (u, b): (usize, usize), (v, c): (usize, usize)) -> bool {
+        let units = self.case.units.joined(u, v);
+        let bays = self.case.bays.joined(b, c);
+        b != c && (bays || !units) && (units || !bays || !self.strict)
     }
 
     // Whether the bay is open to the unit, and obeys the rules with the bay of each other unit.
-    fn fits(&self, strict: bool, list: &[u8], u: usize, b: usize) -> bool {
-        self.open.get(u).is_some_and(|row| holds(*row, b))
+    fn fits(&self, list: &[u8], u: usize, b: usize) -> bool {
+        self.case.open.get(u).is_some_and(|row| holds(*row, b))
             && list.iter().enumerate().all(|(v, c)| u == v
-                || self.suits(strict, (u, b), (v, usize::from(*c))))
+                || self.suits((u, b), (v, usize::from(*c))))
     }
 
     // Whether each unit fits in its bay of the list.
-    fn passes(&self, strict: bool, list: &[u8]) -> bool {
+    fn passes(&self, list: &[u8]) -> bool {
         list.iter()
             .enumerate()
-            .all(|(u, b)| self.fits(strict, list, u, usize::from(*b)))
+            .all(|(u, b)| self.fits(list, u, usize::from(*b)))
     }
 
     // The number of the first placement among the lists from this number on.
-    pub(crate) fn placement_from(&self, strict: bool, number: usize) -> Option<usize> {
-        let count = self.units.count.min(24);
-        (number..self.lists()).find(|k| self.passes(strict, &self.list(*k)[0..count]))
+    pub(crate) fn placement_from(&self, number: usize) -> Option<usize> {
+        let count = self.case.units.count.min(24);
+        (number..self.lists()).find(|k| self.passes(&self.list(*k)[0..count]))
     }
 }
