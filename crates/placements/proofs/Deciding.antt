@@ -1,7 +1,8 @@
 -- The tests of placements, rows and order say what the relations say. Assumes nothing.
-use Rattle.std.proofs.Common.{◌≡◌, ℕ, ◌+◌, ◌<◌, Bool, true, false, ◌&&◌, eqb, ltb, ◌⊎◌, List, length, get_or, Decides, refl, ap, ◌∙◌, inl, inr, add-one}
+use Rattle.std.proofs.Common.{◌≡◌, ℕ, zero, suc, ◌+◌, ◌<◌, Bool, true, false, ◌&&◌, eqb, ltb, ◌⊎◌, List, [], ◌∷◌, length, get_or, Decides, sym, refl, ap, ap₂, ◌∙◌, inl, inr, arith}
+use Rattle.std.specs.List.{list_all, enumerate_from}
 use Rattle.std.proofs.lemmas.Bool.Decides.{Decides-eqb, Decides-ltb, Decides-and, Decides-or, Decides-like, Decides-below_and, Decides-below_or}
-use Rattle.std.proofs.lemmas.Bool.{cases_eq, cases_Bool, both_ways, and_from}
+use Rattle.std.proofs.lemmas.Bool.{cases_eq}
 use Rattle.graphs.specs.Graph.{Graph}
 use Rattle.graphs.specs.Rows.{Pairs}
 use Rattle.placements.specs.Agreement.{agrees}
@@ -21,21 +22,26 @@ pub some_decides : (p : ℕ → Bool) (P : ℕ → Type 0) → ((k : ℕ) → De
 unfolding some_below
 some_decides p P each n = Decides-below_or p P (λ k. some_below k p) each refl (λ _. refl) n
 
--- for a loop that stops at the first number that does not pass
-pub each_none : (p : ℕ → Bool) → each_below 0 p ≡ true
+-- the first number apart
+each_front : (p : ℕ → Bool) (n : ℕ) → each_below (suc n) p ≡ (p 0 && each_below n (λ k. p (suc k)))
 unfolding each_below
-each_none p = refl
+each_front p zero = refl
+each_front p (suc n) = ap (λ (t : Bool). p (suc n) && t) (each_front p n) ∙ swap (p (suc n)) (p 0) (each_below n (λ k. p (suc k)))
+  where
+    swap : (x y z : Bool) → (x && (y && z)) ≡ (y && (x && z))
+    swap true y z = refl
+    swap false true z = refl
+    swap false false z = refl
 
-pub each_more : (p : ℕ → Bool) (n : ℕ) → each_below n p ≡ true → p n ≡ true → each_below (n + 1) p ≡ true
+-- each element with its number passes
+pub list_each : (t : ℕ → ℕ → Bool) (xs : List ℕ) (i : ℕ) (p : ℕ → Bool) → ((k : ℕ) → p k ≡ t (i + k) (get_or xs k 0))
+    → list_all (λ q. t q.0 q.1) (enumerate_from i xs) ≡ each_below (length xs) p
 unfolding each_below
-each_more p n h e = ap (λ k. each_below k p) (add-one n) ∙ and_from (p n) (each_below n p) e h
-
-pub each_stops : (p : ℕ → Bool) (n k : ℕ) → k < n → p k ≡ false → each_below n p ≡ false
-each_stops p n k l e =
-    elim (cases_Bool (each_below n p)) [
-      | inl t ↦ absurd (both_ways (p k) e ((each_decides p (λ i. p i ≡ true) (λ i. decides_itself (p i)) n).0 t k l))
-      | inr f ↦ f
-    ]
+list_each t [] i p e = refl
+list_each t (x ∷ xs) i p e =
+    ap₂ (λ (s r : Bool). s && r) (sym (e 0 ∙ ap (λ (m : ℕ). t m x) (let z : i + 0 ≡ i = omega arith in z)))
+    (list_each t xs (i + 1) (λ k. p (suc k)) (λ k. e (suc k) ∙ ap (λ (m : ℕ). t m (get_or xs k 0)) (let z : i + suc k ≡ i + 1 + k = omega arith in z)))
+    ∙ sym (each_front p (length xs))
 
 -- the unit u stands in the room and agrees with each other
 abbrev pub Suits : Graph → Graph → Bool → List ℕ → ℕ → Type 0

@@ -1,14 +1,14 @@
 // Which bays agree, and what a placement is.
 #![tactic(auto)]
 
-ghost use Rattle.std.specs.Prelude.{◌≡◌, ℕ, ◌<◌, length, Decides};
+ghost use Rattle.std.specs.Prelude.{◌≡◌, ℕ, ◌<◌, length, Decides, ◌&&◌, ◌||◌, ◌==◌, nat_lt, slice_index};
 ghost use Rattle.graphs.specs.Rows.{bit, row_of};
 ghost use Rattle.placements.specs.Agreement.{half, agrees_if, agrees};
 ghost use Rattle.placements.specs.Placement.{Placement};
 ghost use Rattle.placements.specs.Morphisms.{AgreementOnce, OpenIsMono, StrictIsInduced};
-ghost use Rattle.placements.specs.Tests.{unit_test};
+ghost use Rattle.placements.specs.Tests.{each_below};
 
-use graphs::Source;
+use graphs::{Source, first_nodes};
 
 // What placements are sought for: the arrangement, the room, and whether units that are not joined must stand on bays that are not
 // joined.
@@ -52,7 +52,7 @@ impl<'a, A, R: Source> Problem<'a, A, R> {
     pub fn agreeing(&self, joined: Joined, c: usize) -> u64
         ensures { result ≡ row_of (R.Source.graph self.now.room.now).count (λ b. agrees_if (R.Source.graph self.now.room.now) joined.out joined.back self.now.strict b c) }
     {
-        let all = u64::MAX >> (64 - self.room.count());
+        let all = first_nodes(self.room.count());
         let others = if c < 64 { all & !(1 << c) } else { all };
         let out = one_way(self.room.column(c), joined.out, self.strict);
         let back = one_way(self.room.row(c), joined.back, self.strict);
@@ -78,19 +78,15 @@ impl<'a, A: Source, R: Source> Problem<'a, A, R> {
         (b != c) & (out & back)
     }
 
-    // Whether the bay of the unit `u` is in the room and agrees with the bay of each other unit.
-    fn suits(&self, bays: &[u8], u: usize) -> bool
-        requires { (u < length bays.now) × (length bays.now ≡ (A.Source.graph self.now.arrangement.now).count) }
-        ensures { result ≡ unit_test (A.Source.graph self.now.arrangement.now) (R.Source.graph self.now.room.now) self.now.strict bays.now u }
+    // Whether the bay `b` is in the room and agrees, for the unit `u`, with the bay of each other unit.
+    fn suits(&self, bays: &[u8], u: usize, b: usize) -> bool
+        ensures { result ≡ (nat_lt b (R.Source.graph self.now.room.now).count && each_below (length bays.now) (λ v. u == v || agrees (A.Source.graph self.now.arrangement.now) (R.Source.graph self.now.room.now) self.now.strict u b v (slice_index bays.now v))) }
     {
-        let b = bays[u] as usize;
-        for (v, c) in bays.iter().enumerate() {
-            let agreed = (u == v) | self.agree(u, b, v, *c as usize);
-            if !agreed {
-                return false;
-            }
-        }
         b < self.room.count()
+            && bays
+                .iter()
+                .enumerate()
+                .all(|(v, c)| (u == v) | self.agree(u, b, v, *c as usize))
     }
 
     // Whether the list, one bay a unit, is a placement of the arrangement in the room. In open use that is a monomorphism of the
@@ -101,15 +97,10 @@ impl<'a, A: Source, R: Source> Problem<'a, A, R> {
         ensures monomorphism { OpenIsMono }
         ensures induced { StrictIsInduced }
     {
-        if bays.len() != self.arrangement.count() {
-            return false;
-        }
-        // By number, since the test of a unit reads the bays of all units.
-        for u in 0..bays.len() {
-            if !self.suits(bays, u) {
-                return false;
-            }
-        }
-        true
+        bays.len() == self.arrangement.count()
+            && bays
+                .iter()
+                .enumerate()
+                .all(|(u, b)| self.suits(bays, u, *b as usize))
     }
 }

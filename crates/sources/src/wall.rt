@@ -1,6 +1,6 @@
 // A wall of columns and levels as a source of joints.
 ghost use Rattle.std.specs.Prelude.{◌≡◌, ℕ, ◌*◌, ◌<◌, ◌≤◌, true, ◌&&◌, ◌||◌, ◌==◌};
-ghost use Rattle.graphs.specs.Rows.{bit, row_of};
+ghost use Rattle.graphs.specs.Rows.{row_of};
 ghost use Rattle.graphs.specs.WallGrid.{wall_graph, wall_joined, WallLawful};
 ghost use Rattle.graphs.proofs.Walls.{wall_sound, wall_symmetric};
 ghost use Rattle.sources.specs.Drawn.{Drawn};
@@ -9,7 +9,7 @@ ghost use Rattle.sources.specs.Taking.{Taken};
 
 use crate::drawn::row_at;
 use crate::fault::JointFault;
-use graphs::Source;
+use graphs::{Source, with_node};
 use std::array;
 
 // How many columns and levels a lawful wall has.
@@ -125,12 +125,4 @@ impl Source for WallGrid {
     fn column(&self, b: usize) -> u64 {
         row_at(&self.rows, b)
     }
-}
-
-// The row with the node `b` too, where it is wanted.
-fn with_node(row: u64, wanted: bool, b: usize) -> u64
-    requires { wanted ≡ true → b < 64 }
-    ensures { (k : ℕ) → bit result k ≡ (bit row k || (wanted && b == k)) }
-{
-    if wanted { row | (1 << b) } else { row }
 }

@@ -1,22 +1,19 @@
-use Rattle.std.proofs.Common.{ℕ, ◌<◌, Bool, ◌||◌, eqb, ltb, get_or, sym, ap, ◌∙◌, arith}
-use Rattle.std.proofs.lemmas.Bool.{and_right}
+use Rattle.std.proofs.Common.{◌≡◌, ℕ, ◌+◌, Bool, ◌&&◌, ◌||◌, eqb, length, get_or, sym, ap, ◌∙◌, arith, rules, tests}
+use Rattle.std.proofs.lemmas.Bool.{lt-ltb}
+use Rattle.std.proofs.lemmas.Iterator.{YieldsList-from_slice}
+use Rattle.std.proofs.lemmas.Iterator.Consumers.{YieldsList-from_enumerate}
+use Rattle.std.proofs.lemmas.Iterator.Search.{all_from_yields_List}
 use Rattle.graphs.specs.Graph.{Graph}
-use Rattle.placements.specs.Tests.{each_below, pair_test}
-use Rattle.placements.proofs.Deciding.{each_none, each_more, each_stops}
+use Rattle.placements.specs.Agreement.{agrees}
+use Rattle.placements.specs.Tests.{each_below}
+use Rattle.placements.proofs.Deciding.{list_each}
 use Rattle.placements.proofs.Problem.suits.Goals as goal
 
-pub loop-v-init : goal.loop-v-init
-loop-v-init g c = each_none (pair_test (g.A.Source.graph c.args.self.now.arrangement.now) (g.R.Source.graph c.args.self.now.room.now) c.args.self.now.strict c.args.bays.now c.args.u)
-
-pub returns-then-not-agreed : goal.returns-then-not-agreed
-returns-then-not-agreed g c =
+pub returns-then-b-count : goal.returns-then-b-count
+returns-then-b-count g c =
     let a : Graph = g.A.Source.graph c.args.self.now.arrangement.now in
-    let p : ℕ → Bool = pair_test a (g.R.Source.graph c.args.self.now.room.now) c.args.self.now.strict c.args.bays.now c.args.u in
-    let l : c.loop-v.v < a.count = omega (arith, c.requires.1) in
-    sym (and_right (ltb (get_or c.args.bays.now c.args.u 0) (g.R.Source.graph c.args.self.now.room.now).count) (each_below a.count p)
-    (each_stops p a.count c.loop-v.v l (ap (λ (t : Bool). eqb c.args.u c.loop-v.v || t) (sym c.agree.ensures) ∙ c.if-not-agreed.true)))
-
-pub loop-v-preserved : goal.loop-v-preserved
-loop-v-preserved g c =
-    each_more (pair_test (g.A.Source.graph c.args.self.now.arrangement.now) (g.R.Source.graph c.args.self.now.room.now) c.args.self.now.strict c.args.bays.now c.args.u)
-    c.loop-v.v c.loop-v.invariant (ap (λ (t : Bool). eqb c.args.u c.loop-v.v || t) (sym c.agree.ensures) ∙ c.if-not-agreed.false)
+    let r : Graph = g.R.Source.graph c.args.self.now.room.now in
+    let t : ℕ → ℕ → Bool = λ v d. eqb c.args.u v || agrees a r c.args.self.now.strict c.args.u c.args.b v d in
+    all_from_yields_List (λ q. t q.0 q.1) _ _ c.all.result c.all.ensures.ran (YieldsList-from_enumerate (YieldsList-from_slice c.args.bays.now (cc)) cc) (λ x b q k. search (rules, tests))
+    ∙ list_each t c.args.bays.now 0 (λ v. t v (get_or c.args.bays.now v 0)) (λ k. ap (λ (m : ℕ). t m (get_or c.args.bays.now k 0)) (let z : k ≡ 0 + k = omega arith in z))
+    ∙ sym (ap (λ (s : Bool). s && each_below (length c.args.bays.now) (λ v. t v (get_or c.args.bays.now v 0))) (lt-ltb c.args.b r.count (omega (arith, c.if-b-count.true, c.count.ensures))))
