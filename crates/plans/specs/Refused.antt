@@ -5,6 +5,8 @@ use Rattle.refusals.specs.declared.Reason.TheVariants as R
 use Rattle.graphs.specs.Graph.{Graph}
 use Rattle.ledgers.specs.Calls.{Answer, done, number, found, yes, none, refused, rule, ill}
 use Rattle.ledgers.specs.Ledger.{Verdict, declined}
+use Rattle.tables.specs.declared.fault.SaveFault.{SaveFault}
+use Rattle.tables.specs.declared.fault.SaveFault.TheVariants.{Short}
 use Rattle.saved.specs.declared.fault.PlanFault.{PlanFault}
 use Rattle.saved.specs.Told.{plan_told}
 use Rattle.plans.specs.declared.refusal.Refusal.{Refusal}
@@ -21,6 +23,10 @@ reason_of NoLastAnswer = R.NoLastAnswer
 reason_of ShortBuffer = R.ShortBuffer
 reason_of (NoPlacement t) = R.NoPlacement
 reason_of NoRoom = R.NoRoom
+
+-- a buffer too short for the saved form has no room
+abbrev pub save_refusal : SaveFault → Refusal
+save_refusal Short = NoRoom
 
 -- a search without a find tells its tries, and any other refusal its reason
 abbrev pub declining : Refusal → Answer

@@ -7,7 +7,8 @@ pub mod calls;
 pub mod searches;
 
 // Its sizes, the struck pairs, the fitted pairs where there is a fit, and the last answer where there is one; rows past the units
-// and bits past the bays are zero. Rows and bays lie in arrays of fixed length, since the library has no heap.
+// and bits past the bays are zero. Rows and bays lie in arrays of fixed length, and no `ArrayVec`: the calls copy them whole, and rely on
+// the zeros.
 #[derive(Drop)]
 pub struct Plan {
     units: usize,

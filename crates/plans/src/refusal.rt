@@ -1,7 +1,8 @@
 ghost use Rattle.std.specs.Prelude.{◌≡◌};
-ghost use Rattle.plans.specs.Refused.{reason_of};
+ghost use Rattle.plans.specs.Refused.{reason_of, save_refusal};
 
 use refusals::Reason;
+use tables::SaveFault;
 
 // Why a call of a plan declines.
 #[derive(Clone, Copy, PartialEq, Eq, Debug)]
@@ -47,6 +48,16 @@ impl From<Refusal> for Reason {
     }
 }
 
+impl From<SaveFault> for Refusal {
+    ghost from_gives = { λ fault refusal. refusal ≡ save_refusal fault };
+
+    fn from(fault: SaveFault) -> Refusal {
+        match fault {
+            SaveFault::Short => Refusal::NoRoom,
+        }
+    }
+}
+
 #[cfg(test)]
 mod tests {
     use super::*;
@@ -56,5 +67,10 @@ mod tests {
     fn reasons(rt: HostRuntime) {
         assert_eq!(rt; Reason::from(Refusal::NoFit), Reason::NoFit);
         assert_eq!(rt; Reason::from(Refusal::NoPlacement(7)), Reason::NoPlacement);
+    }
+
+    #[test]
+    fn short_of_the_form(rt: HostRuntime) {
+        assert_eq!(rt; Refusal::from(SaveFault::Short), Refusal::NoRoom);
     }
 }

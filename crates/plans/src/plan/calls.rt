@@ -127,7 +127,7 @@ impl Plan {
         ensures { Step self.now (turn (save out.old) (saving result) out.new) self.now }
     {
         let table = Table::from_rows(self.bays, &self.struck[..self.units]);
-        save_plan(&table, out).map_err(|_| Refusal::NoRoom)
+        save_plan(&table, out).map_err(Refusal::from)
     }
 
     // Strikes a pair.

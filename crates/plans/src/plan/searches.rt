@@ -77,7 +77,8 @@ impl Plan {
         Ok(find.tries)
     }
 
-    // The first placement after the last answer, into the buffer, with the tries.
+    // The first placement after the last answer, into the buffer, with the tries. It ends as `seek` does: one method for both would ask
+    // again, in a clause each, that the answer is well shaped, has low bays and zeros behind and fits the buffer, for four lines.
     pub fn further<A: Source, R: Source, F: Filter>(
         &mut self,
         problem: &Problem<A, R>,
