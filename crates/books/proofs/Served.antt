@@ -4,6 +4,7 @@ use lib.Bits.{bit_and, and_le_l}
 use Rattle.std.proofs.lemmas.Bool.{cases_eq, cases_lt, eq-eqb, eqb-true, and_parts, and_from}
 use Rattle.graphs.specs.Rows.{bit}
 use Rattle.graphs.proofs.Bits.{bit_of_and, bit_past, same_rows}
+use Rattle.graphs.proofs.Bools.{bool_ext}
 use Rattle.books.specs.Services.{served}
 
 kept : (n s : Bool) → (not n || s) ≡ true → (n && s) ≡ n
@@ -13,11 +14,6 @@ kept false s e = refl
 there : (n s : Bool) → (n && s) ≡ n → (not n || s) ≡ true
 there true s e = e
 there false s e = refl
-
-bool_ext : (s t : Bool) → (s ≡ true → t ≡ true) → (t ≡ true → s ≡ true) → s ≡ t
-bool_ext true t f g = sym (f refl)
-bool_ext false true f g = g refl
-bool_ext false false f g = refl
 
 served_at : (k needs services : ℕ) → served k needs services ≡ true → (b : ℕ) → b < k → (not (bit needs b) || bit services b) ≡ true
 served_at zero needs services e b lt = absurd (omega arith)

@@ -3,7 +3,7 @@ use Rattle.std.proofs.Common.{◌≡◌, ℕ, ◌-◌, ◌*◌, ◌/◌, ◌%◌
 use lib.Bits.{bit_and}
 use Rattle.std.proofs.lemmas.Nat.{one_shl}
 use Rattle.std.proofs.lemmas.Bool.Decides.{nat_tests}
-use Rattle.std.proofs.lemmas.Bool.{cases_lt, lt-ltb, le-ltb}
+use Rattle.std.proofs.lemmas.Bool.{cases_lt, lt-ltb, le-ltb, ne_eqb}
 use Rattle.graphs.specs.Rows.{bit, row_of}
 use Rattle.graphs.specs.Graph.{Graph}
 use Rattle.graphs.proofs.Bits.{bit_of_and, bit_not, bit_one, bit_none}
@@ -20,22 +20,28 @@ bit_full k l = bit_not 64 0 k (omega arith) ∙ ap (λ (t : Bool). t && not (bit
 pub bit_inverse : (x k : ℕ) → x < 2 ^ 64 → k < 64 → bit (18446744073709551615 - x) k ≡ not (bit x k)
 bit_inverse x k h l = bit_not 64 x k h ∙ ap (λ (t : Bool). t && not (bit x k)) (lt-ltb k 64 l)
 
--- the bays below n but c, from all below n
-module _ (n c all : ℕ) (few : n ≤ 64) where
-  pub others_of : c < 64 → ((k : ℕ) → bit all k ≡ (ltb k n && ltb k 64)) → (k : ℕ)
-      → bit (bit_and all (18446744073709551615 - (1 * 2 ^ c) % 18446744073709551616)) k ≡ (ltb k n && not (eqb k c))
-  others_of h is k =
-      let one : ℕ = (1 * 2 ^ c) % 18446744073709551616 in
-      let only : bit one k ≡ eqb c k = ap (λ (x : ℕ). bit x k) (one_shl c 64 h) ∙ bit_one c k in
-      bit_of_and all (18446744073709551615 - one) k ∙ grind (arith, nat_tests, is k, bit_not 64 one k (omega arith), only)
-
-  pub others_past : 64 ≤ c → ((k : ℕ) → bit all k ≡ (ltb k n && ltb k 64)) → (k : ℕ) → bit all k ≡ (ltb k n && not (eqb k c))
-  others_past h is k = grind (arith, nat_tests, is k)
-
--- the same where all below n are shifted from all 64
+-- the bays below n but c
 pub others_low : (n c : ℕ) → n ≤ 64 → c < 64 → (k : ℕ)
     → bit (bit_and (18446744073709551615 / 2 ^ (64 - n)) (18446744073709551615 - (1 * 2 ^ c) % 18446744073709551616)) k ≡ (ltb k n && not (eqb k c))
-others_low n c few h = others_of n c (18446744073709551615 / 2 ^ (64 - n)) few h (λ k. bit_all n k few ∙ grind (arith, nat_tests))
+others_low n c l h k =
+    let one : (1 * 2 ^ c) % 18446744073709551616 ≡ 2 ^ c = one_shl c 64 h in
+    bit_of_and (18446744073709551615 / 2 ^ (64 - n)) (18446744073709551615 - (1 * 2 ^ c) % 18446744073709551616) k
+    ∙ ap (λ (t : Bool). t && bit (18446744073709551615 - (1 * 2 ^ c) % 18446744073709551616) k) (bit_all n k l)
+    ∙ elim (cases_lt k n) [
+      | inl z ↦ ap (λ (t : Bool). ltb k n && t)
+          (bit_inverse ((1 * 2 ^ c) % 18446744073709551616) k (omega arith) (omega arith)
+          ∙ ap not (ap (λ (x : ℕ). bit x k) one ∙ bit_one c k ∙ eqb_flip c k))
+      | inr z ↦ ap (λ (t : Bool). t && bit (18446744073709551615 - (1 * 2 ^ c) % 18446744073709551616) k) (le-ltb k n z)
+          ∙ sym (ap (λ (t : Bool). t && not (eqb k c)) (le-ltb k n z))
+    ]
+
+pub others_high : (n c : ℕ) → n ≤ 64 → 64 ≤ c → (k : ℕ) → bit (18446744073709551615 / 2 ^ (64 - n)) k ≡ (ltb k n && not (eqb k c))
+others_high n c l h k =
+    bit_all n k l
+    ∙ elim (cases_lt k n) [
+      | inl z ↦ lt-ltb k n z ∙ sym (ap₂ (λ (s t : Bool). s && not t) (lt-ltb k n z) (ne_eqb k c (λ e. omega arith)))
+      | inr z ↦ le-ltb k n z ∙ sym (ap (λ (t : Bool). t && not (eqb k c)) (le-ltb k n z))
+    ]
 
 both : (o n s t u v : Bool) → o ≡ (true && n) → s ≡ u → t ≡ v → ((o && s) && t) ≡ (true && (n && (u && v)))
 both o true s t u v e f h = ap₂ (λ (x y : Bool). (x && y) && t) e f ∙ ap (λ (y : Bool). u && y) h

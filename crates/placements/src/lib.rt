@@ -8,7 +8,7 @@ ghost use Rattle.placements.specs.Placement.{Placement};
 ghost use Rattle.placements.specs.Morphisms.{AgreementOnce, OpenIsMono, StrictIsInduced};
 ghost use Rattle.placements.specs.Tests.{each_below};
 
-use graphs::{Source, first_nodes};
+use graphs::Source;
 
 // What placements are sought for: the arrangement, the room, and whether units that are not joined must stand on bays that are not
 // joined.
@@ -52,7 +52,8 @@ impl<'a, A, R: Source> Problem<'a, A, R> {
     pub fn agreeing(&self, joined: Joined, c: usize) -> u64
         ensures { result ≡ row_of (R.Source.graph self.now.room.now).count (λ b. agrees_if (R.Source.graph self.now.room.now) joined.out joined.back self.now.strict b c) }
     {
-        let all = first_nodes(self.room.count());
+        // With `first_nodes` of graphs, which tests the count, filters and search ran 3 per cent more instructions.
+        let all = u64::MAX >> (64 - self.room.count());
         let others = if c < 64 { all & !(1 << c) } else { all };
         let out = one_way(self.room.column(c), joined.out, self.strict);
         let back = one_way(self.room.row(c), joined.back, self.strict);
