@@ -24,7 +24,7 @@ pub enum JobFault {
     Unequal(usize),
 }
 
-// A table's fault travels whole inside the job's.
+// A table's fault travels whole inside the job's. Written by hand, as a derive would state no variant to a contract.
 impl From<TableFault> for JobFault {
     ghost from_gives = { λ e r. r ≡ InTable e };
 
@@ -33,7 +33,7 @@ impl From<TableFault> for JobFault {
     }
 }
 
-// And so does a plan's, with the table's inside it.
+// And so does a plan's, with the table's inside it; by hand likewise.
 impl From<PlanFault> for JobFault {
     ghost from_gives = { λ e r. r ≡ InPlan e };
 

@@ -25,6 +25,7 @@ impl Mode {
     }
 }
 
+// Each `TryFrom` has numbers of its own, in a byte here and in two bytes below: a generic one would take all of them as parameters.
 impl TryFrom<u8> for Mode {
     type Error = Unknown;
 

@@ -1,8 +1,8 @@
 use crate::head::{Edition, Mode};
 use tables::Table;
 
-// What a job's bytes hold. The kinds and heights lie in arrays of fixed length, since the library has no heap; of the kinds one
-// counts for each row of the arrangement, of the heights one for each row of the room.
+// What a job's bytes hold. The kinds and heights lie in arrays of fixed length, and no `ArrayVec`, since a job is copied; of the
+// kinds one counts for each row of the arrangement, of the heights one for each row of the room.
 #[derive(Clone, Copy)]
 pub struct Job {
     pub mode: Mode,

@@ -30,7 +30,8 @@ fn read_head(input: &[u8]) -> Result<(Mode, Edition), JobFault>
     Ok((mode, edition))
 }
 
-// A table of joints from the place `at` on, and the place behind it.
+// A table of joints from the place `at` on, and the place behind it. The readers take the whole input with a place in it, since a fault
+// tells an offset in the whole and `read_table` and `read_plan` take it so.
 fn read_joints(input: &[u8], at: usize) -> Result<(Table, usize), JobFault>
     ensures value { seen_table result ≡ joints_part input.now at }
     ensures within { IfOk result (λ p. p.1 ≤ length input.now) }
@@ -57,7 +58,8 @@ fn read_kinds(input: &[u8], at: usize, units: usize) -> Result<[u8; 64], JobFaul
     Ok(kinds)
 }
 
-// Two bytes a bay from the place `at` on.
+// Two bytes a bay from the place `at` on. One function for kinds and heights would take the bytes a card, the decoder and its law as
+// parameters, for two calls.
 fn read_heights(input: &[u8], at: usize, bays: usize) -> Result<[u16; 64], JobFault>
     requires room { at ≤ length input.now }
     requires few { bays ≤ 64 }

@@ -3,7 +3,7 @@ use Rattle.std.proofs.Common.{◌≡◌, ℕ, zero, suc, ◌+◌, ◌-◌, ◌/�
 use Rattle.std.proofs.lemmas.Bool.{both_ways, eq-eqb, ne_eqb, cases_lt, cases_Bool, and_left, and_right}
 use Rattle.graphs.specs.Rows.{bit}
 use Rattle.graphs.proofs.Bits.{bit_zero, bit_suc, bit_none, bit_past, below_none}
-use Rattle.graphs.proofs.Bools.{and_true}
+use Rattle.std.proofs.Math.Bool.{and-true}
 use Rattle.graphs.proofs.Lowest.{Turn}
 use Rattle.tables.specs.declared.fault.TableFault.{TableFault}
 use Rattle.tables.specs.declared.part.Part.{Part}
@@ -81,7 +81,7 @@ module _ {start part : Part} {map columns count : ℕ} {rows : List ℕ} where
     marked = odd reached.0 (sym (here x reached.0 rest reached.1) ∙ t.held)
 
     same_but : (c : ℕ) → (c ≡ x → ⊥) → bit next c ≡ bit rest c
-    same_but c ne = t.but c ∙ ap (λ (b : Bool). bit rest c && not b) (ne_eqb c x ne) ∙ and_true (bit rest c)
+    same_but c ne = t.but c ∙ ap (λ (b : Bool). bit rest c && not b) (ne_eqb c x ne) ∙ and-true (bit rest c)
 
     still : (c : ℕ) → bit next c ≡ true → bit rest c ≡ true
     still c b = elim (cases_Bool (bit rest c)) [
