@@ -61,5 +61,5 @@ impl<'a> Measure for FilterLines<'a> {
 // Each filter in the first room of the family.
 pub(crate) fn applications(run: Run, family: &Family) -> io::Result<()> {
     let name = family.name;
-    family.measure(run.rt.alloc(), 1, &FilterLines { run, name })
+    family.measure(1, &FilterLines { run, name })
 }

@@ -1,10 +1,9 @@
 // Fixed arrangements and rooms, drawn from a shape and a number.
 use crate::run::Measure;
-use drawing::{Chance, Graph};
+use drawing::{Case, Chance, Graph};
 use graphs::Source;
 use placements::Problem;
 use sources::{JointTable, WallGrid};
-use std::alloc::{AllocError, Global};
 use std::io;
 
 // A graph to be drawn.
@@ -66,58 +65,41 @@ impl Shape {
     }
 }
 
-// An arrangement, a room, and for each unit the row of the bays that are open to it.
-#[derive(Drop)]
-struct Room {
-    units: Graph,
-    bays: Graph,
-    open: Vec<u64>,
-}
-
 impl Family {
-    // The room with this number.
-    fn room(&self, alloc: Global, number: u64) -> Result<Room, AllocError> {
+    // The case with this number.
+    fn case(&self, number: u64) -> Case {
         let mut chance = Chance::new(number);
         let units = self.units.graph(&mut chance);
         let bays = self.bays.graph(&mut chance);
-        let mut open = Vec::new(alloc);
-        for _ in 0..units.count {
-            open.push(chance.row(bays.count, self.open))?;
-        }
-        Ok(Room { units, bays, open })
+        Case::random(&mut chance, units, bays, self.open)
     }
 
-    // Measures in a drawn room by the source of its joints.
+    // Measures a case by the source of its room's joints.
     fn print_in<R: Source, M: Measure>(
         &self,
-        drawn: &Room,
+        case: &Case,
         room: &R,
         measure: &M,
     ) -> io::Result<()> {
         let problem = Problem {
-            arrangement: &JointTable::new(drawn.units.rows(), drawn.units.count),
+            arrangement: &JointTable::new(case.units.rows(), case.units.count),
             room,
             strict: self.strict,
         };
-        measure.print(problem, &drawn.open)
+        measure.print(problem, case.rows())
     }
 
     // Measures in the room with this number: a wall by its two sizes, and any other room by a joint table.
-    pub(crate) fn measure<M: Measure>(
-        &self,
-        alloc: Global,
-        number: u64,
-        measure: &M,
-    ) -> io::Result<()> {
-        let drawn = self.room(alloc, number)?;
+    pub(crate) fn measure<M: Measure>(&self, number: u64, measure: &M) -> io::Result<()> {
+        let case = self.case(number);
         // The sources are of two types, so each has its call.
         match self.bays {
             Shape::Wall { columns, levels } => {
-                self.print_in(&drawn, &WallGrid::new(columns, levels), measure)
+                self.print_in(&case, &WallGrid::new(columns, levels), measure)
             }
             _ => {
-                let table = JointTable::new(drawn.bays.rows(), drawn.bays.count);
-                self.print_in(&drawn, &table, measure)
+                let table = JointTable::new(case.bays.rows(), case.bays.count);
+                self.print_in(&case, &table, measure)
             }
         }
     }

@@ -49,7 +49,7 @@ impl<'a> Measure for SeekLine<'a> {
 pub(crate) fn seeks(run: Run, family: &Family) -> io::Result<()> {
     let name = family.name;
     for number in 1..=family.rooms {
-        family.measure(run.rt.alloc(), number, &SeekLine { run, name, number })?;
+        family.measure(number, &SeekLine { run, name, number })?;
     }
     Ok(())
 }

@@ -41,6 +41,7 @@ fn clear(figures: &[u16; 8], unit: &KindCard, bay: &HeightCard) -> bool
 
 // An edition of the clearance book. No other crate can name the trait, so there are these two editions alone.
 pub trait ClearanceEdition {
+    // What the book gives as its edition.
     const NUMBER: u16;
 
     // The figures in mm by kind: base, wall, tall, hob, sink, oven housing, corner, shelf.

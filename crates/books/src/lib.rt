@@ -17,6 +17,7 @@ pub trait Book {
 
     type BayCard;
 
+    // A number, as a book knows nothing of jobs, whose enum names the editions of the clearance book alone.
     const EDITION: u16;
 
     // The same, for contracts.

@@ -7,7 +7,8 @@ ghost use Rattle.drawing.specs.Joints.{joins};
 use crate::chance::Chance;
 use graphs::holds;
 
-// Up to 64 nodes, and a row for each of those that it is joined to. The rows are an array, as libraries here use no heap.
+// Up to 64 nodes, and a row for each of those that it is joined to. The rows are an array, so that a graph is `Copy` and making one
+// cannot fail; libraries here use no heap.
 #[derive(Clone, Copy)]
 pub struct Graph {
     pub count: usize,

@@ -1,5 +1,5 @@
 // What is drawn from fixed states, worked out by a program of its own in whole numbers.
-use crate::{Chance, Graph};
+use crate::{Case, Chance, Graph};
 
 #[test]
 fn numbers_below(rt: HostRuntime) {
@@ -70,4 +70,15 @@ fn joints(rt: HostRuntime) {
     assert!(rt; !graph.joined(3, 1));
     assert!(rt; !graph.joined(64, 0));
     assert_eq!(rt; Graph::new(100).rows().len(), 64);
+}
+
+// A row is drawn for each unit and no more.
+#[test]
+fn case(rt: HostRuntime) {
+    let mut chance = Chance::new(6);
+    let case = Case::random(&mut chance, Graph::new(3), Graph::new(5), 50);
+    assert_eq!(rt; case.rows(), [11, 13, 12].as_slice());
+    assert_eq!(rt; case.units.count, 3);
+    assert_eq!(rt; case.bays.count, 5);
+    assert_eq!(rt; chance.below(10), 0);
 }

@@ -46,8 +46,10 @@ pub(crate) fn write_listing(text: &mut Text, mut plan: Plan, lawful: &LawfulJob)
     };
     let units = job.struck.rows().len();
     let mut bays = [0; 24];
-    // Whether `bays` holds a placement that is not listed yet; a call of the plan that declines leaves the old one there.
+    // Whether `bays` holds a placement that is not listed yet. The calls of the plan write it there and answer only their tries, and one
+    // that declines leaves the old one, so the answer alone says it.
     let mut found = plan.seek(&problem, &filter, &mut bays).is_ok();
+    // The number of a line is not used: an iterator of placements would hold the plan, and still have to say whether one is left.
     for _listed in 0..MOST {
         if !found {
             break;

@@ -20,6 +20,7 @@ fn fit_plan(plan: &mut Plan, lawful: &LawfulJob) -> Result<(), Refusal>
 {
     let job = lawful.job;
     let (kinds, heights) = (job.kinds(), job.heights());
+    // The cards are lent as slices and stand in arrays, as libraries here use no heap.
     let units: [KindCard; 64] = array::from_fn(|u| KindCard {
         kind: kinds.get(u).copied().unwrap_or(0),
     });
@@ -27,7 +28,7 @@ fn fit_plan(plan: &mut Plan, lawful: &LawfulJob) -> Result<(), Refusal>
         height: heights.get(b).copied().unwrap_or(0),
     });
     let (units, bays) = (&units[..kinds.len()], &bays[..heights.len()]);
-    // The editions are two types, so each has its call.
+    // The editions are two types, so that a book's edition is a constant of its type, and each has its call.
     match job.edition {
         Edition::One => plan.fit(&Clearance(EditionOne), units, bays),
         Edition::Two => plan.fit(&Clearance(EditionTwo), units, bays),

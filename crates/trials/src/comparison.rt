@@ -43,13 +43,13 @@ impl<'a, 'f, A: Source, R: Source, F: Filter> Comparison<'a, 'f, A, R, F> {
     // The first placement after the list with this number, which need be no placement.
     pub(crate) fn after(&self, number: usize, tally: &mut Tally) -> Option<usize> {
         let last = self.plain.list(number);
-        let answer = next_after(&self.problem, self.filter, &self.plain.case.open, &last);
+        let answer = next_after(&self.problem, self.filter, self.plain.case.rows(), &last);
         self.agreed(number.saturating_add(1), answer, tally)
     }
 
     // The chain of all placements, each sought after the one before.
     pub(crate) fn chain(&self, tally: &mut Tally) {
-        let answer = first(&self.problem, self.filter, &self.plain.case.open);
+        let answer = first(&self.problem, self.filter, self.plain.case.rows());
         let mut placement = self.agreed(0, answer, tally);
         for _ in 0..self.plain.lists() {
             let Some(number) = placement else { return };

@@ -8,13 +8,12 @@ mod tally;
 use comparison::Comparison;
 use consistency::ArcConsistency;
 use degree::Degree;
-use drawing::{Chance, Graph};
+use drawing::{Case, Chance, Graph};
 use filters::{Filter, Open, Repeated, Then};
 use graphs::Source;
 use placements::Problem;
-use plain::{Case, PlainSearch};
+use plain::{PlainSearch, drawn_case};
 use sources::{JointTable, WallGrid};
-use std::alloc::{AllocError, Global};
 use std::io;
 use tally::Tally;
 
@@ -25,7 +24,6 @@ const ROOMS: usize = 3000;
 // The rooms in which the searches are compared, under one filter in one use.
 #[derive(Drop)]
 struct Trial<'a, F> {
-    alloc: Global,
     strict: bool,
     filter: &'a F,
     chance: Chance,
@@ -33,9 +31,8 @@ struct Trial<'a, F> {
 }
 
 impl<'a, F: Filter + Drop> Trial<'a, F> {
-    fn new(alloc: Global, strict: bool, filter: &'a F) -> Trial<'a, F> {
+    fn new(strict: bool, filter: &'a F) -> Trial<'a, F> {
         Trial {
-            alloc,
             strict,
             filter,
             chance: Chance::new(START),
@@ -64,38 +61,36 @@ impl<'a, F: Filter + Drop> Trial<'a, F> {
     }
 
     // A room of 2 to 6 bays, by a joint table.
-    fn compare_in_table(&mut self) -> Result<(), AllocError> {
+    fn compare_in_table(&mut self) {
         let count = self.chance.between(2, 6);
         let hundredths = self.chance.between(30, 90) as u64;
         let bays = Graph::random(&mut self.chance, count, hundredths);
-        let case = Case::draw(self.alloc, &mut self.chance, bays)?;
+        let case = drawn_case(&mut self.chance, bays);
         self.compare(&case, &JointTable::new(case.bays.rows(), case.bays.count));
-        Ok(())
     }
 
     // A room by a wall.
-    fn compare_in_wall(&mut self) -> Result<(), AllocError> {
+    fn compare_in_wall(&mut self) {
         let columns = self.chance.between(1, 3);
         let levels = self.chance.between(1, 2);
-        let case = Case::draw(self.alloc, &mut self.chance, Graph::wall(columns, levels))?;
+        let case = drawn_case(&mut self.chance, Graph::wall(columns, levels));
         self.compare(&case, &WallGrid::new(columns, levels));
-        Ok(())
     }
 
     // Every room, of each kind in turn.
-    fn run(mut self) -> Result<Tally, AllocError> {
+    fn run(mut self) -> Tally {
         for _ in 0..ROOMS / 2 {
-            self.compare_in_table()?;
-            self.compare_in_wall()?;
+            self.compare_in_table();
+            self.compare_in_wall();
         }
-        Ok(self.tally)
+        self.tally
     }
 }
 
 // A line for each use.
 fn report<F: Filter + Drop>(rt: &HostRuntime, name: &str, filter: &F) -> io::Result<()> {
     for (joints, strict) in [("open", false), ("strict", true)] {
-        let tally = Trial::new(rt.alloc(), strict, filter).run()?;
+        let tally = Trial::new(strict, filter).run();
         println!(rt; "{name:<24} {joints:<6} {ROOMS:>6} {tally}")?;
     }
     Ok(())

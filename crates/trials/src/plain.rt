@@ -1,34 +1,14 @@
 // The second search, from the rules alone: every list of bays in dictionary order, tested one by one.
-use drawing::{Chance, Graph};
+use drawing::{Case, Chance, Graph};
 use graphs::holds;
-use std::alloc::{AllocError, Global};
 
-// An arrangement, a room, and for each unit the row of the bays that are open to it. Bench has such a struct too, drawn from shapes:
-// the crate that both stand on is a library, which uses no heap, and the rows lie in a Vec.
-#[derive(Drop)]
-pub(crate) struct Case {
-    pub units: Graph,
-    pub bays: Graph,
-    pub open: Vec<u64>,
-}
-
-impl Case {
-    // An arrangement and rows for a room of these bays.
-    pub(crate) fn draw(
-        alloc: Global,
-        chance: &mut Chance,
-        bays: Graph,
-    ) -> Result<Case, AllocError> {
-        let count = chance.between(1, 5);
-        let hundredths = chance.between(20, 80) as u64;
-        let units = Graph::random(chance, count, hundredths);
-        let share = chance.between(60, 110) as u64;
-        let mut open = Vec::new(alloc);
-        for _ in 0..count {
-            open.push(chance.row(bays.count, share))?;
-        }
-        Ok(Case { units, bays, open })
-    }
+// A case of drawn units and rows in a room of these bays.
+pub(crate) fn drawn_case(chance: &mut Chance, bays: Graph) -> Case {
+    let count = chance.between(1, 5);
+    let hundredths = chance.between(20, 80) as u64;
+    let units = Graph::random(chance, count, hundredths);
+    let share = chance.between(60, 110) as u64;
+    Case::random(chance, units, bays, share)
 }
 
 // The second search of a case, in the open or the strict use.
@@ -68,7 +48,7 @@ impl<'a> PlainSearch<'a> {
 
     // Whether the bay is open to the unit, and obeys the rules with the bay of each other unit.
     fn fits(&self, list: &[u8], u: usize, b: usize) -> bool {
-        self.case.open.get(u).is_some_and(|row| holds(*row, b))
+        self.case.rows().get(u).is_some_and(|row| holds(*row, b))
             && list.iter().enumerate().all(|(v, c)| u == v
                 || self.suits((u, b), (v, usize::from(*c))))
     }
