@@ -1,6 +1,7 @@
 -- What a row leaves of another, bay for bay. Assumes nothing.
 use Rattle.std.proofs.Common.{◌≡◌, ℕ, ◌-◌, ◌/◌, ◌^◌, ◌<◌, ◌≤◌, Bool, true, false, not, ◌&&◌, ◌||◌, eqb, ltb, sym, refl, ap, ◌∙◌, subst, inl, inr}
 use lib.Bits.{bit_and, bit_or}
+use Rattle.std.proofs.Math.Bool.{and-true}
 use Rattle.std.proofs.lemmas.Bool.{both_ways, false≢true, ne_eqb, lt-ltb, ltb-true, cases_eq, cases_Bool, and_parts, and_from, or_cases, or_left, or_right, not_from_false}
 use Rattle.graphs.specs.Rows.{bit, row_of}
 use Rattle.graphs.specs.Graph.{Graph}
@@ -10,10 +11,6 @@ use Rattle.graphs.proofs.Rows.{bit_all, bit_row_of, row_is}
 use Rattle.placements.specs.Agreement.{agrees_if}
 use Rattle.consistency.specs.Support.{any_of, revised}
 use Rattle.consistency.specs.Theory.{bool_ext, any_has, any_some}
-
-and_true : (t : Bool) → (t && true) ≡ t
-and_true true = refl
-and_true false = refl
 
 any_eq : (x y n : ℕ) (p : ℕ → Bool) → ((c : ℕ) → c < n → bit x c ≡ bit y c) → any_of x n p ≡ any_of y n p
 any_eq x y n p e =
@@ -53,7 +50,7 @@ module _ (r : Graph) (few : r.count ≤ 64) (out back k : Bool) (row other : ℕ
       (record {
         under = λ c e. ltb-true c r.count (and_parts (bit other c) (below c) (sym (bit_mask r.count other c few) ∙ e)).1;
         sum = λ b. ap (λ (t : Bool). below b && (bit row b && t)) (any_eq other (bit_and other (mask r.count)) r.count (agree b)
-            (λ c l. sym (bit_mask r.count other c few ∙ ap (λ (t : Bool). bit other c && t) (lt-ltb c r.count l) ∙ and_true (bit other c))))
+            (λ c l. sym (bit_mask r.count other c few ∙ ap (λ (t : Bool). bit other c && t) (lt-ltb c r.count l) ∙ and-true (bit other c))))
             ∙ sym (ap (λ (t : Bool). t || (below b && (bit row b && any_of (bit_and other (mask r.count)) r.count (agree b)))) (bit_none b));
       })
 
