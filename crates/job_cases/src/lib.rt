@@ -21,7 +21,7 @@ mod tests {
     // The number, the layer and the place that an answer tells where it is a fault. Each crate of cases has it, as tests export nothing.
     fn told<T: Drop, F: Into<Told>>(answer: Result<T, F>) -> Option<(u8, u8, usize)> {
         let told: Told = answer.err()?.into();
-        Some((u8::from(told.reason), u8::from(told.layer), told.place))
+        Some(told.numbers())
     }
 
     #[test]
