@@ -5,6 +5,7 @@ use Rattle.std.specs.Int.Bits.{bit_and, bit_or}
 use Rattle.std.proofs.lemmas.List.{length-replicate, get_or-replicate}
 use Rattle.std.proofs.lemmas.Bool.{cases_eq, cases_lt, eq-eqb, ne_eqb, lt-ltb, ltb-true, and_parts}
 use Rattle.std.proofs.lemmas.Bool.Decides.{nat_tests}
+use Rattle.std.proofs.Math.Bool.{and-true}
 use Rattle.graphs.specs.Rows.{bit, row_of}
 use Rattle.graphs.specs.Graph.{Graph, Sound}
 use Rattle.graphs.proofs.Bits.{bit_of_and, bit_of_or, bit_none, bits_below}
@@ -27,11 +28,7 @@ ones_within n p set =
 
 -- within all nodes: the degree
 pub degree_all : (g : Graph) (a : ℕ) → degree_within g all_nodes a ≡ degree g a
-degree_all g a = count_same g.count (λ b. g.joined a b && all_nodes b) (g.joined a) (λ b l. and_true (g.joined a b))
-  where
-    and_true : (t : Bool) → (t && true) ≡ t
-    and_true true = refl
-    and_true false = refl
+degree_all g a = count_same g.count (λ b. g.joined a b && all_nodes b) (g.joined a) (λ b l. and-true (g.joined a b))
 
 -- all bits of a number of 64 bits are all nodes
 pub degree_full : (g : Graph) → Sound g → (a : ℕ) → degree_within g (bit 18446744073709551615) a ≡ degree_within g all_nodes a

@@ -75,6 +75,7 @@ impl Masks {
 }
 
 // The set of units with `v` in it, where that unit's row was cut.
+// With `with_node` of graphs, which tests `v`, a search ran 5 per cent more instructions, those of the filter left out.
 fn mark(units: u64, v: usize, cut: bool) -> u64
     requires { v < 64 }
     ensures { (k : ℕ) → bit result k ≡ false → (bit units k ≡ false) × (k ≡ v → cut ≡ false) }

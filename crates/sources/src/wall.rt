@@ -1,5 +1,5 @@
 // A wall of columns and levels as a source of joints.
-ghost use Rattle.std.specs.Prelude.{◌≡◌, ℕ, ◌*◌, ◌<◌, ◌≤◌, true, ◌&&◌, ◌||◌, ◌==◌};
+ghost use Rattle.std.specs.Prelude.{◌≡◌, ◌*◌, ◌≤◌};
 ghost use Rattle.graphs.specs.Rows.{row_of};
 ghost use Rattle.graphs.specs.WallGrid.{wall_graph, wall_joined, WallLawful};
 ghost use Rattle.graphs.proofs.Walls.{wall_sound, wall_symmetric};

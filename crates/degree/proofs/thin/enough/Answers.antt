@@ -1,4 +1,5 @@
 use Rattle.std.proofs.Common.{◌≡◌, ℕ, ◌-◌, Bool, true, false, not, ◌&&◌, ◌||◌, leb, List, get_or, sym, ap, ap₂, ◌∙◌, refl, arith}
+use Rattle.std.proofs.Math.Bool.{and-true}
 use Rattle.graphs.specs.Graph.{Graph}
 use Rattle.graphs.proofs.Bits.{bit_of_and}
 use Rattle.degree.specs.Degree.{degree_within, all_nodes}
@@ -30,8 +31,4 @@ returns-else-problem g c b l =
     let e : ℕ = degree_within r all_nodes b in
     let joints = c.degree_of-joints.ensures in
     at_least_is r b l (g.R.Source.sound c.args.problem.now.room.now) c.args.fewer.now c.requires c.degree_of-joints.result d joints.degree (omega (arith, few, joints.below))
-    ∙ sym (ap (λ (p : Bool). leb d e && (not p || leb (a.count - 1 - d) (r.count - 1 - e))) c.if-problem.false ∙ and_true (leb d e))
-  where
-    and_true : (t : Bool) → (t && true) ≡ t
-    and_true true = refl
-    and_true false = refl
+    ∙ sym (ap (λ (p : Bool). leb d e && (not p || leb (a.count - 1 - d) (r.count - 1 - e))) c.if-problem.false ∙ and-true (leb d e))
