@@ -18,17 +18,6 @@ pub fn holds(row: u64, b: usize) -> bool
     b < 64 && (row >> b) % 2 == 1
 }
 
-// The nodes below `count`: all 64 that a row may hold where `count` is 64 or more.
-pub fn first_nodes(count: usize) -> u64
-    ensures { (k : ℕ) → bit result k ≡ (nat_lt k count && nat_lt k 64) }
-{
-    if count < 64 {
-        (1 << count) - 1
-    } else {
-        u64::MAX
-    }
-}
-
 // The row with the node `b` too, where it is wanted and one of the 64.
 pub fn with_node(row: u64, wanted: bool, b: usize) -> u64
     ensures { (k : ℕ) → bit result k ≡ (bit row k || (wanted && (nat_lt b 64 && b == k))) }

@@ -1,4 +1,4 @@
-use crate::{first_nodes, nodes, with_node};
+use crate::{nodes, with_node};
 
 #[test]
 fn nodes_of_rows(rt: HostRuntime) {
@@ -9,15 +9,6 @@ fn nodes_of_rows(rt: HostRuntime) {
     assert_eq!(rt; some.next(), None);
     assert_eq!(rt; nodes(0).next(), None);
     assert_eq!(rt; nodes(9223372036854775808).next(), Some(63));
-}
-
-#[test]
-fn rows_of_first_nodes(rt: HostRuntime) {
-    assert_eq!(rt; first_nodes(0), 0);
-    assert_eq!(rt; first_nodes(3), 7);
-    assert_eq!(rt; first_nodes(63), 9223372036854775807);
-    assert_eq!(rt; first_nodes(64), u64::MAX);
-    assert_eq!(rt; first_nodes(65), u64::MAX);
 }
 
 #[test]

@@ -52,7 +52,7 @@ impl<'a, A, R: Source> Problem<'a, A, R> {
     pub fn agreeing(&self, joined: Joined, c: usize) -> u64
         ensures { result ≡ row_of (R.Source.graph self.now.room.now).count (λ b. agrees_if (R.Source.graph self.now.room.now) joined.out joined.back self.now.strict b c) }
     {
-        // With `first_nodes` of graphs, which tests the count, filters and search ran 3 per cent more instructions.
+        // By a function for any count, which has to test it, filters and search ran 3 per cent more instructions.
         let all = u64::MAX >> (64 - self.room.count());
         let others = if c < 64 { all & !(1 << c) } else { all };
         let out = one_way(self.room.column(c), joined.out, self.strict);
