@@ -1,4 +1,5 @@
-// The second search, from the rules alone: every list of bays in dictionary order, tested one by one.
+// The second search, from the rules alone: every list of bays in dictionary order, tested one by one. It shares with the library the rows
+// that are drawn and the test whether a row holds a bay.
 use drawing::{Case, Chance, Graph};
 use graphs::holds;
 
