@@ -46,6 +46,10 @@ impl<'a> Text<'a> {
     pub fn put_number(&mut self, n: usize) -> Option<()>
         ensures { Put (decimal n) self.old self.new result }
     {
+        // A digit alone needs no buffer.
+        if n < 10 {
+            return self.put(&[48 + n as u8]);
+        }
         self.put(Buffer::new().format(n).as_bytes())
     }
 }
