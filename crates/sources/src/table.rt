@@ -11,7 +11,6 @@ ghost use Rattle.sources.specs.Drawn.{Written};
 use crate::drawn::row_at;
 use crate::fault::JointFault;
 use graphs::{Source, holds, nodes};
-use std::array;
 
 #[derive(Clone, Copy)]
 pub struct JointTable<'a> {
@@ -83,7 +82,9 @@ fn written_out(rows: &[u64]) -> [u64; 64]
     requires { length rows.now ≤ 64 }
     ensures { Written rows.now result }
 {
-    array::from_fn(|a| row_at(rows, a))
+    let mut drawn = [0; 64];
+    drawn[..rows.len()].copy_from_slice(rows);
+    drawn
 }
 
 // Every joint of the node `a` in turn: a one-sided one is met at the bit that is set.
