@@ -25,6 +25,10 @@ impl HeightCard {
     }
 }
 
+const FIGURES_ONE: [u16; 8] = [0, 600, 1300, 650, 450, 900, 0, 300];
+
+const FIGURES_TWO: [u16; 8] = [0, 600, 1300, 750, 450, 900, 0, 300];
+
 // The figure for a kind.
 fn figure(figures: &[u16; 8], kind: u8) -> Option<u16>
     ensures { result ≡ figure_of figures.now kind }
@@ -51,6 +55,11 @@ pub trait ClearanceEdition {
     ghost NUMBER: { ℕ };
 
     ghost FIGURES: { List ℕ };
+
+    // The figures where they lie. By `&E::FIGURES` in a generic function they were copied for each pair of cards, and a fit took
+    // a third longer.
+    fn all_figures(&self) -> &'static [u16; 8]
+        ensures { result.now ≡ FIGURES };
 }
 
 #[derive(Clone, Copy)]
@@ -59,11 +68,15 @@ pub struct EditionOne;
 impl ClearanceEdition for EditionOne {
     const NUMBER: u16 = 1;
 
-    const FIGURES: [u16; 8] = [0, 600, 1300, 650, 450, 900, 0, 300];
+    const FIGURES: [u16; 8] = FIGURES_ONE;
 
     ghost NUMBER = { 1 };
 
     ghost FIGURES = { figures_one };
+
+    fn all_figures(&self) -> &'static [u16; 8] {
+        &FIGURES_ONE
+    }
 }
 
 #[derive(Clone, Copy)]
@@ -72,11 +85,15 @@ pub struct EditionTwo;
 impl ClearanceEdition for EditionTwo {
     const NUMBER: u16 = 2;
 
-    const FIGURES: [u16; 8] = [0, 600, 1300, 750, 450, 900, 0, 300];
+    const FIGURES: [u16; 8] = FIGURES_TWO;
 
     ghost NUMBER = { 2 };
 
     ghost FIGURES = { figures_two };
+
+    fn all_figures(&self) -> &'static [u16; 8] {
+        &FIGURES_TWO
+    }
 }
 
 // The clearance book of an edition.
@@ -95,6 +112,6 @@ impl<E: ClearanceEdition> Book for Clearance<E> {
     ghost suiting = { λ book. clears E.FIGURES };
 
     fn suits(&self, unit: &KindCard, bay: &HeightCard) -> bool {
-        clear(&E::FIGURES, unit, bay)
+        clear(self.0.all_figures(), unit, bay)
     }
 }
