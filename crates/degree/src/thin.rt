@@ -11,15 +11,22 @@ use graphs::Source;
 use placements::Problem;
 
 // The bays that have joints enough for the unit: at least as many, and in strict use not too many.
-fn enough<A: Source, R: Source>(problem: &Problem<A, R>, fewer: &[u64; 65], u: usize) -> u64
-    requires { ByDegree (R.Source.graph problem.now.room.now) fewer.now }
+fn enough<A: Source, R: Source>(
+    problem: &Problem<A, R>,
+    fewer: &[u64; 65],
+    units: usize,
+    bays: usize,
+    u: usize,
+) -> u64
+    requires sorted { ByDegree (R.Source.graph problem.now.room.now) fewer.now }
+    requires all_units { units ≡ (A.Source.graph problem.now.arrangement.now).count }
+    requires all_bays { bays ≡ (R.Source.graph problem.now.room.now).count }
     ensures { (b : ℕ) → b < (R.Source.graph problem.now.room.now).count → bit result b ≡ degree_test (A.Source.graph problem.now.arrangement.now) (R.Source.graph problem.now.room.now) problem.now.strict u b }
 {
     let joints = degree_of(problem.arrangement, u);
     let many = !fewer[joints];
     if problem.strict {
-        let others = problem.arrangement.count() - 1 - joints;
-        many & fewer[problem.room.count().saturating_sub(others)]
+        many & fewer[bays.saturating_sub(units - 1 - joints)]
     } else {
         many
     }
@@ -35,9 +42,11 @@ pub fn thin_by_degree<A: Source, R: Source>(problem: &Problem<A, R>, rows: &mut 
         return nothing_taken(rows);
     }
     let fewer = with_fewer(problem.room);
+    // Asked for once, as nothing says how long a source takes to count.
+    let (units, bays) = (rows.len(), problem.room.count());
     let mut taken: usize = 0;
     for (u, row) in rows.iter_mut().enumerate() {
-        let left = *row & enough(problem, &fewer, u);
+        let left = *row & enough(problem, &fewer, units, bays, u);
         taken += (row.count_ones() - left.count_ones()) as usize;
         *row = left;
     }

@@ -49,7 +49,7 @@ pub trait Filter {
 pub fn empty_rows(rows: &[u64]) -> usize
     ensures { result ≡ empty_count rows.now }
 {
-    rows.iter().filter(|row| **row == 0).count()
+    rows.iter().map(|row| usize::from(*row == 0)).sum()
 }
 
 // The counts of a filter that takes nothing away from the rows.
@@ -70,10 +70,13 @@ pub fn well_shaped<A: Source, R: Source>(problem: &Problem<A, R>, rows: &[u64]) 
     if rows.len() != problem.arrangement.count() || rows.len() > 24 {
         return false;
     }
+    // A row has such a bit just if the union of all rows has it, and the union is soon made.
+    let mut union: u64 = 0;
     for row in rows {
-        if bays < 64 && *row >> bays != 0 {
-            return false;
-        }
+        union |= *row;
+    }
+    if bays < 64 && union >> bays != 0 {
+        return false;
     }
     true
 }
