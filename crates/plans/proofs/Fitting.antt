@@ -7,7 +7,7 @@ use Rattle.graphs.specs.Rows.{Pairs, pairs}
 use Rattle.graphs.proofs.PairSets.{low_by, blank_by, none_past, none_beyond}
 use Rattle.tables.specs.Shape.{Inside, Blank}
 use Rattle.books.specs.Fit.{handed}
-use Rattle.books.proofs.Fitting.{handed_past_units, handed_past_bays}
+use Rattle.books.proofs.Fitting.{handed_past_units, handed_past_bays, suited_all}
 use Rattle.ledgers.specs.Calls.{fit, fit_further, done}
 use Rattle.ledgers.specs.Ledger.{no_fit, fits, narrowed_by, Verdict, accepted, unless, other_cards}
 use Rattle.plans.specs.Bounds.{numbers_in}
@@ -35,6 +35,13 @@ pub fitted_blank : (p : Plan) (fitted : List ℕ) → p.fitted ≡ Some fitted �
 fitted_blank p fitted was = subst (λ o. Blank p.units (numbers_in o)) was p.fitted_blank
 
 module _ {U B : Type 0} (f : U → B → Bool) (us : List U) (bs : List B) where
+  -- one card a unit and one a bay: no pair that suits is cut off
+  pub suited_here :
+      (p : Plan) (rows : List ℕ) → length us ≡ p.units → length bs ≡ p.bays
+      → ((u b : ℕ) → pairs rows u b ≡ (ltb u 24 && (ltb b 64 && (handed f us bs).suits u b)))
+      → (u b : ℕ) → pairs rows u b ≡ (handed f us bs).suits u b
+  suited_here p rows lu lb is = suited_all f us bs rows is (let h = p.few_units in omega arith) (let h = p.few_bays in omega arith)
+
   pub fit_step :
       (p q : Plan) (rows : List ℕ) → ((v : Verdict) → unless R.CardCount (other_cards (view p) (handed f us bs)) v ≡ v) → length us ≡ p.units → length bs ≡ p.bays
       → ((u b : ℕ) → pairs rows u b ≡ (handed f us bs).suits u b)

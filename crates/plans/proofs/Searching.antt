@@ -108,6 +108,12 @@ open_beyond p u b le = go p.fitted p.fitted_inside
     go None low = refl
     go (Some rows) low = ap (λ t. t && not (pairs p.struck u b)) (none_beyond p.bays rows low u b le)
 
+-- the fitted pairs that are not struck are the open ones
+pub open_is :
+    (p : Plan) (fitted rows : List ℕ) → p.fitted ≡ Some fitted → ((u b : ℕ) → pairs rows u b ≡ (pairs fitted u b && not (pairs p.struck u b)))
+    → (u b : ℕ) → pairs rows u b ≡ open_pairs (view p) u b
+open_is p fitted rows was is u b = is u b ∙ sym (ap (λ o. open_in (fitting o) (pairs p.struck) u b) was)
+
 held_none : (r : Pairs) (u b v c : ℕ) → r v c ≡ false → held_to r u b v c ≡ false
 held_none r u b v c e = ap (λ t. cond (eqb u v) (t && eqb b c) t) e ∙ both (eqb u v)
   where

@@ -1,11 +1,11 @@
 // The calls that need no search.
-ghost use Rattle.std.specs.Prelude.{◌≡◌, ℕ, ◌<◌, ◌≤◌, [], not, if◌then◌else◌, length, slice_index, IfOk, OnOk};
+ghost use Rattle.std.specs.Prelude.{◌≡◌, ℕ, ◌<◌, ◌≤◌, [], not, ◌||◌, ◌==◌, if◌then◌else◌, length, slice_index, IfOk, OnOk};
 ghost use Rattle.refusals.specs.declared.Reason.TheVariants.{OutOfRange, Standing, CardCount};
 ghost use Rattle.graphs.specs.Rows.{pairs};
 ghost use Rattle.books.specs.Fit.{handed};
 ghost use Rattle.tables.specs.Shape.{Inside, Blank};
 ghost use Rattle.ledgers.specs.Calls.{begin, «open», strike, free, fit, fit_further, tally, save, number};
-ghost use Rattle.ledgers.specs.Ledger.{unless, outside, other_cards};
+ghost use Rattle.ledgers.specs.Ledger.{unless, outside};
 ghost use Rattle.plans.specs.Refused.{doing, saving, opening, Tests};
 ghost use Rattle.plans.specs.Step.{Started, Step, Shows, Fresh, turn, view};
 ghost use Rattle.plans.specs.Runs.{Law};
@@ -73,21 +73,15 @@ impl Plan {
         Ok(row)
     }
 
-    // The pairs whose cards suit by the book, where there is one card a unit and one a bay.
-    fn suited<B: Book>(
-        &self,
-        book: &B,
-        units: &[B::UnitCard],
-        bays: &[B::BayCard],
-    ) -> Result<[u64; 24], Refusal>
-        ensures tests { Tests (unless CardCount (other_cards (view self.now) (handed (B.Book.suiting book.now) units.now bays.now))) result }
-        ensures counts { OnOk result ((length units.now ≡ self.now.units) × (length bays.now ≡ self.now.bays)) }
-        ensures rows { IfOk result (λ rows. (u b : ℕ) → pairs rows u b ≡ (handed (B.Book.suiting book.now) units.now bays.now).suits u b) }
+    // Declines other than one card a unit and one a bay.
+    fn one_card_each(&self, units: usize, bays: usize) -> Result<(), Refusal>
+        ensures tests { Tests (unless CardCount (not (units == self.now.units) || not (bays == self.now.bays))) result }
+        ensures counts { OnOk result ((units ≡ self.now.units) × (bays ≡ self.now.bays)) }
     {
-        if units.len() != self.units || bays.len() != self.bays {
+        if units != self.units || bays != self.bays {
             return Err(Refusal::CardCount);
         }
-        Ok(suited_rows(book, units, bays))
+        Ok(())
     }
 
     // A plan of one unit and one bay.
@@ -157,7 +151,8 @@ impl Plan {
     ) -> Result<(), Refusal>
         ensures { Step self.old (turn (fit (handed (B.Book.suiting book.now) units.now bays.now)) (doing result) []) self.new }
     {
-        let suited = self.suited(book, units, bays)?;
+        self.one_card_each(units.len(), bays.len())?;
+        let suited = suited_rows(book, units, bays);
         self.fitted = Some(suited);
         Ok(())
     }
@@ -171,10 +166,12 @@ impl Plan {
     ) -> Result<(), Refusal>
         ensures { Step self.old (turn (fit_further (handed (B.Book.suiting book.now) units.now bays.now)) (doing result) []) self.new }
     {
-        let suited = self.suited(book, units, bays)?;
+        self.one_card_each(units.len(), bays.len())?;
+        // The book is asked only where there is a fit.
         let Some(fitted) = &mut self.fitted else {
             return Err(Refusal::NoFit);
         };
+        let suited = suited_rows(book, units, bays);
         *fitted = common(fitted, &suited);
         Ok(())
     }

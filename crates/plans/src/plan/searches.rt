@@ -1,10 +1,9 @@
 // The calls that search.
-ghost use Rattle.std.specs.Prelude.{◌≡◌, ℕ, [], Err, MatchResult, IfOk};
+ghost use Rattle.std.specs.Prelude.{◌≡◌, ℕ, [], Err, Some, MatchResult, IfOk};
 ghost use Rattle.refusals.specs.declared.Reason.TheVariants.{NoFit, OtherCount};
-ghost use Rattle.graphs.specs.Rows.{pairs};
 ghost use Rattle.search.specs.Walk.{setting};
 ghost use Rattle.ledgers.specs.Calls.{seek, further, what_if};
-ghost use Rattle.ledgers.specs.Ledger.{unless, no_fit, open_pairs};
+ghost use Rattle.ledgers.specs.Ledger.{unless, no_fit};
 ghost use Rattle.plans.specs.Refused.{finding, asking, Tests, counts_other};
 ghost use Rattle.plans.specs.Step.{Step, Shows, turn, view};
 
@@ -44,16 +43,19 @@ fn outcome(answer: Result<Find, SearchError>) -> Result<Find, Refusal>
 }
 
 impl Plan {
-    // The open rows, where there is a fit and the sources have the plan's counts.
-    fn open_rows<A: Source, R: Source>(&self, problem: &Problem<A, R>) -> Result<[u64; 24], Refusal>
+    // The fitted rows, where there is a fit and the sources have the plan's counts.
+    fn fitted_for<A: Source, R: Source>(
+        &self,
+        problem: &Problem<A, R>,
+    ) -> Result<&[u64; 24], Refusal>
         ensures tests { Tests (λ v. unless NoFit (no_fit (view self.now).fitted) (unless OtherCount (counts_other (A.Source.graph problem.now.arrangement.now) (R.Source.graph problem.now.room.now) self.now.units self.now.bays) v)) result }
-        ensures rows { IfOk result (λ rows. (u b : ℕ) → pairs rows u b ≡ open_pairs (view self.now) u b) }
+        ensures rows { IfOk result (λ fitted. self.now.fitted ≡ Some fitted.now) }
     {
         let Some(fitted) = &self.fitted else {
             return Err(Refusal::NoFit);
         };
         same_counts(problem, self.units, self.bays)?;
-        Ok(without(fitted, &self.struck))
+        Ok(fitted)
     }
 
     // The first placement within the open pairs, into the buffer, with the tries.
@@ -67,10 +69,11 @@ impl Plan {
         ensures shows { Shows (seek (setting (A.Source.graph problem.now.arrangement.now) (R.Source.graph problem.now.room.now) problem.now.strict (F.Filter.left filter.now)) out.old) }
     {
         let units = self.units;
-        let rows = self.open_rows(problem)?;
+        let fitted = self.fitted_for(problem)?;
         if out.len() < units {
             return Err(Refusal::ShortBuffer);
         }
+        let rows = without(fitted, &self.struck);
         let find = outcome(first(problem, filter, &rows[..units]))?;
         out[..units].copy_from_slice(&find.bays[..units]);
         self.last = Some(find.bays);
@@ -89,11 +92,12 @@ impl Plan {
         ensures shows { Shows (further (setting (A.Source.graph problem.now.arrangement.now) (R.Source.graph problem.now.room.now) problem.now.strict (F.Filter.left filter.now)) out.old) }
     {
         let units = self.units;
-        let rows = self.open_rows(problem)?;
+        let fitted = self.fitted_for(problem)?;
         let last = self.last.ok_or(Refusal::NoLastAnswer)?;
         if out.len() < units {
             return Err(Refusal::ShortBuffer);
         }
+        let rows = without(fitted, &self.struck);
         let next = outcome(next_after(problem, filter, &rows[..units], &last))?;
         out[..units].copy_from_slice(&next.bays[..units]);
         self.last = Some(next.bays);

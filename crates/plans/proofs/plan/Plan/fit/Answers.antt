@@ -1,18 +1,26 @@
 use Rattle.std.proofs.Common.{refl}
-use Rattle.plans.proofs.Fitting.{fit_step, fit_inside, fit_blank}
+use Rattle.plans.proofs.Fitting.{suited_here, fit_step, fit_inside, fit_blank}
 use Rattle.plans.proofs.plan.Plan.fit.Goals as goal
 
 pub invariant_of-self-clause-fitted_inside : goal.invariant_of-self-clause-fitted_inside
 invariant_of-self-clause-fitted_inside g c =
-    let e = c.in_ok-suited.ensures in
-    fit_inside (g.B.Book.suiting c.args.book.now) c.args.units.now c.args.bays.now c.args.self.now.bays c.in_ok-suited.suited e.counts.1 e.rows
+    let p = c.args.self.now in
+    let f = g.B.Book.suiting c.args.book.now in
+    let e = c.in_ok-one_card_each.ensures.counts in
+    fit_inside f c.args.units.now c.args.bays.now p.bays c.suited_rows-suited.result e.1 (suited_here f c.args.units.now c.args.bays.now p c.suited_rows-suited.result e.0 e.1 c.suited_rows-suited.ensures)
 
 pub invariant_of-self-clause-fitted_blank : goal.invariant_of-self-clause-fitted_blank
 invariant_of-self-clause-fitted_blank g c =
-    let e = c.in_ok-suited.ensures in
-    fit_blank (g.B.Book.suiting c.args.book.now) c.args.units.now c.args.bays.now c.args.self.now.units c.in_ok-suited.suited e.counts.0 e.rows
+    let p = c.args.self.now in
+    let f = g.B.Book.suiting c.args.book.now in
+    let e = c.in_ok-one_card_each.ensures.counts in
+    fit_blank f c.args.units.now c.args.bays.now p.units c.suited_rows-suited.result e.0 (suited_here f c.args.units.now c.args.bays.now p c.suited_rows-suited.result e.0 e.1 c.suited_rows-suited.ensures)
 
 pub returns : goal.returns
 returns g c =
-    let e = c.in_ok-suited.ensures in
-    fit_step (g.B.Book.suiting c.args.book.now) c.args.units.now c.args.bays.now c.args.self.now _ c.in_ok-suited.suited e.tests e.counts.0 e.counts.1 e.rows refl refl refl refl refl
+    let p = c.args.self.now in
+    let f = g.B.Book.suiting c.args.book.now in
+    let t = c.in_ok-one_card_each.ensures.tests in
+    let e = c.in_ok-one_card_each.ensures.counts in
+    fit_step f c.args.units.now c.args.bays.now p _ c.suited_rows-suited.result t e.0 e.1
+    (suited_here f c.args.units.now c.args.bays.now p c.suited_rows-suited.result e.0 e.1 c.suited_rows-suited.ensures) refl refl refl refl refl

@@ -3,7 +3,7 @@ use Rattle.search.specs.Walk.{Setting, setting}
 use Rattle.ledgers.specs.Calls.{further}
 use Rattle.ledgers.specs.Wanted.{Fair}
 use Rattle.plans.specs.Step.{shortened}
-use Rattle.plans.proofs.Searching.{Looks, further_looks, shaped_well, found_got, found_step, lost_step}
+use Rattle.plans.proofs.Searching.{Looks, further_looks, open_is, shaped_well, found_got, found_step, lost_step}
 use Rattle.plans.proofs.plan.Plan.further.Given.{Over}
 use Rattle.plans.proofs.plan.Plan.further.Goals.{After-next_after}
 use Rattle.plans.proofs.plan.Plan.further.Goals as goal
@@ -19,11 +19,12 @@ fair g c = record { arrangement = g.A.Source.sound c.args.problem.now.arrangemen
 
 looks : (g : Over) (c : After-next_after g) → Looks c.args.self.now (shown g c) (latest g c) c.args.out.now (further (shown g c) c.args.out.now) c.next_after.result
 looks g c =
-    let long : c.args.self.now.units ≤ length c.in_ok-rows.rows = search rules in
+    let long : c.args.self.now.units ≤ length c.without-rows.result = search rules in
+    let all = open_is c.args.self.now c.in_ok-fitted.fitted.now c.without-rows.result c.in_ok-fitted.ensures.rows c.without-rows.ensures in
     let far : c.args.self.now.units ≤ length c.in_ok-last.last = search rules in
     let was : c.args.self.now.last ≡ Some c.in_ok-last.last = grind arith in
-    further_looks c.args.self.now (shown g c) c.in_ok-rows.rows c.args.out.now c.next_after.result (fair g c)
-    c.in_ok-rows.ensures.tests c.in_ok-rows.ensures.rows long c.if-out-units.false c.in_ok-last.last was far c.next_after.ensures.theorem c.next_after.ensures.answer
+    further_looks c.args.self.now (shown g c) c.without-rows.result c.args.out.now c.next_after.result (fair g c)
+    c.in_ok-fitted.ensures.tests all long c.if-out-units.false c.in_ok-last.last was far c.next_after.ensures.theorem c.next_after.ensures.answer
 
 pub outcome-requires : goal.outcome-requires
 outcome-requires g c = shaped_well c.args.self.now (shown g c) (latest g c) c.args.out.now _ c.next_after.result (looks g c)

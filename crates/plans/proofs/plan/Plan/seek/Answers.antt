@@ -2,7 +2,7 @@ use Rattle.std.proofs.Common.{◌≤◌, length, None, refl, rules}
 use Rattle.search.specs.Walk.{Setting, setting}
 use Rattle.ledgers.specs.Calls.{seek}
 use Rattle.ledgers.specs.Wanted.{Fair}
-use Rattle.plans.proofs.Searching.{Looks, seek_looks, shaped_well, found_got, found_step, lost_step}
+use Rattle.plans.proofs.Searching.{Looks, seek_looks, open_is, shaped_well, found_got, found_step, lost_step}
 use Rattle.plans.proofs.plan.Plan.seek.Given.{Over}
 use Rattle.plans.proofs.plan.Plan.seek.Goals.{After-first}
 use Rattle.plans.proofs.plan.Plan.seek.Goals as goal
@@ -15,9 +15,10 @@ fair g c = record { arrangement = g.A.Source.sound c.args.problem.now.arrangemen
 
 looks : (g : Over) (c : After-first g) → Looks c.args.self.now (shown g c) None c.args.out.now (seek (shown g c) c.args.out.now) c.first.result
 looks g c =
-    let long : c.args.self.now.units ≤ length c.in_ok-rows.rows = search rules in
-    seek_looks c.args.self.now (shown g c) c.in_ok-rows.rows c.args.out.now c.first.result (fair g c)
-    c.in_ok-rows.ensures.tests c.in_ok-rows.ensures.rows long c.if-out-units.false c.first.ensures.theorem c.first.ensures.answer
+    let long : c.args.self.now.units ≤ length c.without-rows.result = search rules in
+    let all = open_is c.args.self.now c.in_ok-fitted.fitted.now c.without-rows.result c.in_ok-fitted.ensures.rows c.without-rows.ensures in
+    seek_looks c.args.self.now (shown g c) c.without-rows.result c.args.out.now c.first.result (fair g c)
+    c.in_ok-fitted.ensures.tests all long c.if-out-units.false c.first.ensures.theorem c.first.ensures.answer
 
 pub outcome-requires : goal.outcome-requires
 outcome-requires g c = shaped_well c.args.self.now (shown g c) None c.args.out.now _ c.first.result (looks g c)
