@@ -31,9 +31,11 @@ impl<'a> PlainSearch<'a> {
     // The list with this number, counted from 0 in dictionary order, and zeros behind, as a search answers it.
     pub(crate) fn list(&self, number: usize) -> [u8; 24] {
         let bays = self.case.bays.count.max(1);
+        let count = self.case.units.count.min(24);
         let mut list = [0u8; 24];
         let mut rest = number;
-        for bay in list.iter_mut().take(self.case.units.count).rev() {
+        // The front is cut off first: from the back, `take` would pass over all that lies behind it.
+        for bay in list[..count].iter_mut().rev() {
             *bay = (rest % bays) as u8;
             rest /= bays;
         }
