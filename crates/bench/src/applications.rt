@@ -44,9 +44,13 @@ impl<'a> FilterLines<'a> {
         let bays = problem.room.count();
         let pairs = taken(filter, problem, rows);
         let turn = || taken(filter, problem, rows);
-        let nanos = self.run.time_of(TURNS, pairs, "pairs", turn)?;
-        print!(self.run.rt; "apply {name} {by} {units} {bays} {pairs} taken")?;
-        self.run.end_line(nanos)
+        // Each line is written whole, by one call.
+        match self.run.time_of(TURNS, pairs, "pairs", turn)? {
+            None => println!(self.run.rt; "apply {name} {by} {units} {bays} {pairs} taken"),
+            Some(nanos) => {
+                println!(self.run.rt; "apply {name} {by} {units} {bays} {pairs} taken {nanos}")
+            }
+        }
     }
 }
 

@@ -49,11 +49,4 @@ impl<'a> Run<'a> {
         }
         Ok(Some(span.as_nanos() / u128::from(turns.max(1))))
     }
-
-    pub(crate) fn end_line(&self, nanos: Option<u128>) -> io::Result<()> {
-        if let Some(nanos) = nanos {
-            print!(self.rt; " {nanos}")?;
-        }
-        println!(self.rt; "")
-    }
 }

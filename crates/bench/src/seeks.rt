@@ -39,9 +39,12 @@ impl<'a> Measure for SeekLine<'a> {
         let found = if answer.is_ok() { "found" } else { "none" };
         let turns = 20000 / tries.saturating_add(20) + 1;
         let turn = || tries_of(seek(&problem, rows));
-        let nanos = self.run.time_of(turns, tries, "tries", turn)?;
+        // Written before the turns, so that a run that is cut off has said what the seek came to.
         print!(self.run.rt; "seek {name} {number} {units} {bays} {tries} {found}")?;
-        self.run.end_line(nanos)
+        if let Some(nanos) = self.run.time_of(turns, tries, "tries", turn)? {
+            print!(self.run.rt; " {nanos}")?;
+        }
+        println!(self.run.rt; "")
     }
 }
 
