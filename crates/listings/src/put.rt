@@ -31,7 +31,7 @@ pub(crate) fn write_line(text: &mut Text, bays: &[u8]) -> Option<()>
     for (u, bay) in bays.iter().enumerate() {
         write_bay(text, u, *bay)?;
     }
-    text.put(b"\n")
+    text.put(b"\n") // right behind the last bay
 }
 
 // The line of a refusal.
